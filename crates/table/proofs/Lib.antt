@@ -1,0 +1,5 @@
+pub mod Turns
+pub mod Whole
+pub mod Says
+pub mod LinesRead
+pub mod Exact
