@@ -20,16 +20,17 @@ use Rattle.words.proofs.Tokens.{Reads, reads-from-spells, spells-from-reads, le
 use Rattle.forms.specs.Lines.{Lines}
 use Rattle.forms.proofs.Spelled.{length-lines}
 use Rattle.list_graph.specs.Lists.{Counts-fit}
+use Rattle.std.specs.shelf.Lists.{All}
 use Rattle.table.specs.declared.contents.Counts.{Counts}
 use Rattle.table.specs.declared.contents.Entry.{Entry}
 use Rattle.table.specs.declared.contents.Keyword.the-variants as key
 use Rattle.table.specs.Table.{Contents, accepts, answered, answer-by, blank, contents-at, counts-of, entries-from, head-at, heads-at, over, table-answer, table-over, before-text, with-entries, within-entries}
-use Rattle.table.specs.Grammar.{Entries-fit, Is-table, Reads-exactly, Table-read, entry-tokens, table-forms}
+use Rattle.table.specs.Grammar.{Entry-fits, Is-table, Reads-exactly, Table-read, entry-tokens, table-forms}
 use Rattle.table.proofs.LinesRead.{bind-parts, good-value, good-reading, head-from-reads, reads-from-head, entries-from-reads, entries-read}
 use Rattle.table.proofs.Says.{entries-say}
 use Rattle.table.proofs.Whole.{accepts-not-refuses, answer-over}
 
-contents-from-reads : {p : Reading} {ts : List Tok} (c : Counts) (es : List Entry) → Counts-fit (c .modes) (c .commands) (c .flags) → Entries-fit c es → Reads p ts → Lines ts (table-forms c es) → (q : Reading) × (contents-at p ≡ good (record { counts = c; entries = es }) q)
+contents-from-reads : {p : Reading} {ts : List Tok} (c : Counts) (es : List Entry) → Counts-fit (c .modes) (c .commands) (c .flags) → All (Entry-fits c) es → Reads p ts → Lines ts (table-forms c es) → (q : Reading) × (contents-at p ≡ good (record { counts = c; entries = es }) q)
 unfolding entries-from
 contents-from-reads {p} {ts} c es within fits r lines =
     let (p1, us1, e1, r1, l1) = head-from-reads key.Modes 1 65 (c .modes) (within .modes-low) (omega (arith, within .modes-high)) r lines in
@@ -42,7 +43,7 @@ contents-from-reads {p} {ts} c es within fits r lines =
 -- the tokens of a table that was read
 record ContentsRead (p : Reading) (t : Contents) : Type 0 where
   within : Counts-fit (t .counts .modes) (t .counts .commands) (t .counts .flags)
-  fits : Entries-fit (t .counts) (t .entries)
+  fits : All (Entry-fits (t .counts)) (t .entries)
   tokens : List Tok
   reads : Reads p tokens
   lines : Lines tokens (table-forms (t .counts) (t .entries))
@@ -63,7 +64,7 @@ contents-read p q t e =
     let (ts1, l1, b1, r1, m1) = reads-from-head key.Modes 1 65 n g1 r2 m2 in
     let read : ContentsRead p (record { counts = counts-of n k f; entries = es }) = record {
       within = record { modes-low = l1; modes-high = omega arith; commands-low = l2; commands-high = omega arith; flags-high = omega arith };
-      fits = subst (λ (x : Counts). Entries-fit x es) (sym counts) fits;
+      fits = subst (λ (x : Counts). All (Entry-fits x) es) (sym counts) fits;
       tokens = ts1;
       reads = r1;
       lines = m1;

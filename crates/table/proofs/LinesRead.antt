@@ -22,6 +22,7 @@ use Rattle.forms.specs.declared.form.Numeral.{Numeral}
 use Rattle.forms.specs.Forms.{Word-at, closed, ended, named, numbered, next-form, taken, misplaced}
 use Rattle.forms.specs.Lines.{Lines}
 use Rattle.forms.proofs.Spelled.{After, closed-from-reads, reads-from-closed, numbered-from-reads, reads-from-numbered, named-from-reads, reads-from-named, ended-from-reads, reads-from-ended, form-from-reads, reads-from-form, end-from-reads, reads-from-end}
+use Rattle.std.specs.shelf.Lists.{All}
 use Rattle.table.specs.declared.contents.Counts.{Counts}
 use Rattle.table.specs.declared.contents.Entry.{Entry}
 use Rattle.table.specs.declared.contents.Entry.the-variants.{Mark, Arc}
@@ -29,7 +30,7 @@ use Rattle.table.specs.declared.contents.Keyword.{Keyword}
 use Rattle.table.specs.declared.contents.Keyword.the-variants as key
 use Rattle.table.specs.declared.table.Head.{Head}
 use Rattle.table.specs.Table.{beyond, key-of, keyed, key-at, number-in, form-end, key-number, in-order, head-form, head-line, head-at, entry-by, entry-form, entry-line, entry-at, and-more, within-entries}
-use Rattle.table.specs.Grammar.{head-tokens, entry-tokens, Entry-fits, Entries-fit}
+use Rattle.table.specs.Grammar.{head-tokens, entry-tokens, Entry-fits}
 
 -- a refusal is no value
 pub bad-not-good : {A : Type 0} {e : Refused} {a : A} {q : Reading} → bad e ≡ good a q → ⊥
@@ -301,7 +302,7 @@ entry-read p q c o e =
     entry-line-read p c next s q o f g
 
 -- all entries
-pub entries-from-reads : (k : ℕ) (c : Counts) (es : List Entry) {p : Reading} {ts : List Tok} → length es < k → Entries-fit c es → Reads p ts → Lines ts (map entry-tokens es) → (q : Reading) × (within-entries k c p ≡ good es q)
+pub entries-from-reads : (k : ℕ) (c : Counts) (es : List Entry) {p : Reading} {ts : List Tok} → length es < k → All (Entry-fits c) es → Reads p ts → Lines ts (map entry-tokens es) → (q : Reading) × (within-entries k c p ≡ good es q)
 entries-from-reads zero c es lt fits r lines = absurd (omega arith)
 entries-from-reads (suc k) c [] lt fits r lines =
     let (q, e) = none-from-reads c r lines in
@@ -312,7 +313,7 @@ entries-from-reads (suc k) c (x ∷ es) lt fits r lines =
     (t, rw (e, rest) refl)
 
 abbrev EntriesRead : Counts → List Entry → Reading → Type 0
-EntriesRead c es p = (ts : List Tok) × Entries-fit c es × Reads p ts × Lines ts (map entry-tokens es)
+EntriesRead c es p = (ts : List Tok) × All (Entry-fits c) es × Reads p ts × Lines ts (map entry-tokens es)
 
 and-more-read : (p q s : Reading) (k : ℕ) (c : Counts) (o : Option Entry) (es : List Entry) → ((p q : Reading) (es : List Entry) → within-entries k c p ≡ good es q → EntriesRead c es p) → LineRead c o p s → and-more (within-entries k c) o s ≡ good es q → EntriesRead c es p
 and-more-read p q s k c None es others line e = let (ts, r, l) = line in subst (λ (x : List Entry). EntriesRead c x p) (good-value e) (ts, tt, r, l)

@@ -13,11 +13,12 @@ use Rattle.std.specs.Orderings.{Decides}
 use Rattle.list_graph.specs.Layout.{bit, flag-bit, arc-bit, flag-byte, arc-byte, marked, joined}
 use Rattle.list_graph.proofs.Bits.{bit-zero, flag-bit-marked, arc-bit-marked, flag-bit-joined, arc-bit-joined, length-marked, length-joined}
 use Rattle.list_graph.specs.Lists.{Counts-fit}
+use Rattle.std.specs.shelf.Lists.{All}
 use Rattle.table.specs.declared.contents.Counts.{Counts}
 use Rattle.table.specs.declared.contents.Entry.{Entry}
 use Rattle.table.specs.declared.contents.Entry.the-variants.{Mark, Arc}
 use Rattle.table.specs.Table.{blank, with-entry, with-entries}
-use Rattle.table.specs.Grammar.{Entry-fits, Entries-fit, Listed, Says}
+use Rattle.table.specs.Grammar.{Entry-fits, Listed, Says}
 
 pub length-with-entry : (e : Entry) (bytes : List ℕ) → length (with-entry e bytes) ≡ length bytes
 length-with-entry (Mark p u) bytes = length-marked bytes p u
@@ -85,14 +86,14 @@ unfolding Sets
 sets-none b = (inl, ⊎-elim (λ t. t) (λ n. absurd n))
 
 module _ (c : Counts) (few : Counts-fit (c .modes) (c .commands) (c .flags)) where
-  marks-set : (es : List Entry) → Entries-fit c es → (bytes : List ℕ) → 8320 ≤ length bytes → (p u : ℕ) → p < 16 → u < 64 → Sets (flag-bit (with-entries es bytes) p u) (flag-bit bytes p u) (Listed (Mark p u) es)
+  marks-set : (es : List Entry) → All (Entry-fits c) es → (bytes : List ℕ) → 8320 ≤ length bytes → (p u : ℕ) → p < 16 → u < 64 → Sets (flag-bit (with-entries es bytes) p u) (flag-bit bytes p u) (Listed (Mark p u) es)
   marks-set [] fits bytes long p u hp hu = sets-none (flag-bit bytes p u)
   marks-set (e ∷ es) fits bytes long p u hp hu =
       sets-more (flag-bit (with-entries es (with-entry e bytes)) p u) (flag-bit (with-entry e bytes) p u) (flag-bit bytes p u) (e ≡ Mark p u) (Listed (Mark p u) es)
       (mark-set c few e (fits .0) bytes long p u hp hu)
       (marks-set es (fits .1) (with-entry e bytes) (omega (arith, length-with-entry e bytes)) p u hp hu)
 
-  arcs-set : (es : List Entry) → Entries-fit c es → (bytes : List ℕ) → 8320 ≤ length bytes → (a u v : ℕ) → u < 64 → v < 64 → Sets (arc-bit (with-entries es bytes) a u v) (arc-bit bytes a u v) (Listed (Arc a u v) es)
+  arcs-set : (es : List Entry) → All (Entry-fits c) es → (bytes : List ℕ) → 8320 ≤ length bytes → (a u v : ℕ) → u < 64 → v < 64 → Sets (arc-bit (with-entries es bytes) a u v) (arc-bit bytes a u v) (Listed (Arc a u v) es)
   arcs-set [] fits bytes long a u v hu hv = sets-none (arc-bit bytes a u v)
   arcs-set (e ∷ es) fits bytes long a u v hu hv =
       sets-more (arc-bit (with-entries es (with-entry e bytes)) a u v) (arc-bit (with-entry e bytes) a u v) (arc-bit bytes a u v) (e ≡ Arc a u v) (Listed (Arc a u v) es)
@@ -118,7 +119,7 @@ unfolding Sets
 decides-set b after before P same clear s =
     (λ t. ⊎-elim (λ f. absurd (false≢true (sym clear ∙ f))) (λ p. p) (s .0 (sym same ∙ t)), λ p. same ∙ s .1 (inr p))
 
-pub entries-say : (c : Counts) → Counts-fit (c .modes) (c .commands) (c .flags) → (es : List Entry) → Entries-fit c es → (rest : List ℕ) → Says es (with-entries es blank ++ rest)
+pub entries-say : (c : Counts) → Counts-fit (c .modes) (c .commands) (c .flags) → (es : List Entry) → All (Entry-fits c) es → (rest : List ℕ) → Says es (with-entries es blank ++ rest)
 entries-say c few es fits rest =
     let table = with-entries es blank in
     let long : length table ≡ 8320 = length-with-entries es blank ∙ length-blank in

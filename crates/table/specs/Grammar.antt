@@ -9,6 +9,7 @@ use lib.ListN.{length, drop}
 use Rattle.std.specs.Orderings.{Decides}
 use Rattle.std.specs.Results.{Cases}
 use Rattle.std.specs.declared.result.Result.{Result}
+use Rattle.std.specs.shelf.Lists.{All}
 use Rattle.words.specs.declared.fault.Fault.{Fault}
 use Rattle.words.specs.Words.{Tok, word, number, opens, closes, text-limit}
 use Rattle.words.specs.Spelling.{Spells}
@@ -39,10 +40,6 @@ abbrev pub Entry-fits : Counts → Entry → Type 0
 Entry-fits c (Mark p u) = (p < c .flags) × (u < c .modes)
 Entry-fits c (Arc a u v) = (a < c .commands) × (u < c .modes) × (v < c .modes)
 
-abbrev pub Entries-fit : Counts → List Entry → Type 0
-Entries-fit c [] = Unit {0}
-Entries-fit c (e ∷ es) = Entry-fits c e × Entries-fit c es
-
 -- the text is a table with these counts and entries, within the limits
 pub record Is-table (text : List ℕ) (c : Counts) (entries : List Entry) : Type 0 where
   pub short : length text ≤ text-limit
@@ -50,7 +47,7 @@ pub record Is-table (text : List ℕ) (c : Counts) (entries : List Entry) : Type
   pub spelled : Spells text tokens
   pub lines : Lines tokens (table-forms c entries)
   pub counts : Counts-fit (c .modes) (c .commands) (c .flags)
-  pub fits : Entries-fit c entries
+  pub fits : All (Entry-fits c) entries
 
 -- the entry is in the list
 abbrev pub Listed : Entry → List Entry → Type 0
