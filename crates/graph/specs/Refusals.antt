@@ -3,7 +3,7 @@ use Prim.Native.Nat.{ℕ}
 use Rattle.graph.specs.declared.refusal.Refusal.{Refusal}
 use Rattle.graph.specs.declared.refusal.Refusal.the-variants.{MemoryShort, LimitBroken}
 
--- the memory that was handed is too short: 9; a count is outside of its limits: 16
+-- the memory that was handed is too short: 9; a limit is broken, or a dial or a command that is named is not there: 16
 abbrev pub refusal-number : Refusal → ℕ
 refusal-number MemoryShort = 9
 refusal-number LimitBroken = 16

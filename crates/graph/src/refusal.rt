@@ -8,7 +8,7 @@ ghost use Rattle.graph.specs.Refusals.{refusal-number};
 pub enum Refusal {
     /// The memory that was handed is shorter than what is read from it needs.
     MemoryShort,
-    /// A count is outside of its limits.
+    /// A limit is broken, or a dial or a command that is named is not there.
     LimitBroken,
 }
 
