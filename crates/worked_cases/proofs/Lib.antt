@@ -1,0 +1,2 @@
+-- The proofs of the worked cases.
+pub mod Proved
