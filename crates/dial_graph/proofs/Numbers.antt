@@ -2,12 +2,12 @@
 use Prim.Native.Nat.{ℕ, _+_, _*_, _/_, _%_, _<_, _≤_, min}
 use native.Mathlib.Nat.{mul-comm, mul-assoc, add-mul, div-div-eq-div-mul}
 use native.Mathlib.Omega.{arith}
-use mathlib.Core.Path.{_≡_, refl, sym, ap, _∙_}
+use mathlib.Core.Path.{_≡_, sym, ap, _∙_}
 use mathlib.Core.List.{List}
 use lib.ListN.{length}
 use Rattle.std.proofs.shelf.Bits.{div-add-mod', div-below, div-mul-add, mod-below, mod-mul-add, mul-add-lt, mul-le}
 use Rattle.graph.specs.Meaning.{mode-limit, command-limit, flag-limit}
-use Rattle.dial_graph.specs.Dials.{Fits, Sizes-fit, counted-meaning, held, held-meaning, held-sizes, number, settings, sizes-of}
+use Rattle.dial_graph.specs.Dials.{Fits, Sizes-fit, counted-meaning, held, held-meaning, held-sizes, number, position-limit, settings, sizes-of}
 use Rattle.dial_graph.specs.Made.{Accepted, All-are-settings, All-have-numbers}
 use Rattle.dial_graph.specs.declared.rules.Rule.{Rule}
 use Rattle.dial_graph.specs.declared.rules.DialFlag.{DialFlag}
@@ -56,16 +56,26 @@ all-are-settings s fit u h =
 held-same : (low high n : ℕ) → low ≤ n → n ≤ high → held low high n ≡ n
 held-same low high n h k = omega arith
 
+-- the sizes of three dials, and that equal numbers of positions make equal sizes
+abbrev three : ℕ → ℕ → ℕ → Sizes
+three d e h = record { first = d; second = e; third = h }
+
+three-same : (d e h d′ e′ h′ : ℕ) → d ≡ d′ → e ≡ e′ → h ≡ h′ → three d e h ≡ three d′ e′ h′
+three-same d e h d′ e′ h′ p q r = cc
+
 -- sizes within the limits are not changed
 sizes-same : (s : Sizes) → Sizes-fit s → held-sizes s ≡ s
 sizes-same s fit =
-    let same : (d e h d′ e′ h′ : ℕ) → d ≡ d′ → e ≡ e′ → h ≡ h′ → _≡_ {A = Sizes} (record { first = d; second = e; third = h }) (record { first = d′; second = e′; third = h′ }) =
-    λ d e h d′ e′ h′ p q r. cc in
-    same _ _ _ _ _ _ (held-same 1 8 _ (fit .first-low) (fit .first-high)) (held-same 1 8 _ (fit .second-low) (fit .second-high)) (held-same 1 8 _ (fit .third-low) (fit .third-high))
+    three-same _ _ _ _ _ _
+    (held-same 1 position-limit (s .first) (fit .first-low) (fit .first-high))
+    (held-same 1 position-limit (s .second) (fit .second-low) (fit .second-high))
+    (held-same 1 position-limit (s .third) (fit .third-low) (fit .third-high))
 
 -- there is a setting
 some-setting : (s : Sizes) → Sizes-fit s → 1 ≤ settings s
-some-setting s fit = mul-le 1 1 (s .first * s .second) (s .third) (mul-le 1 1 (s .first) (s .second) (fit .first-low) (fit .second-low)) (fit .third-low)
+some-setting s fit =
+    let two = mul-le 1 1 (s .first) (s .second) (fit .first-low) (fit .second-low) in
+    mul-le 1 1 (s .first * s .second) (s .third) two (fit .third-low)
 
 -- equal parts make equal meanings
 counted-same : (n n′ c c′ f f′ : ℕ) (s s′ : Sizes) (rules : List Rule) (flags : List DialFlag) → n ≡ n′ → c ≡ c′ → f ≡ f′ → s ≡ s′ → counted-meaning n c f s rules flags ≡ counted-meaning n′ c′ f′ s′ rules flags

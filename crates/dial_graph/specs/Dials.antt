@@ -63,10 +63,13 @@ abbrev pub dial-follows : Sizes → Rule → ℕ → ℕ → ℕ → Bool
 dial-follows s r i u v =
     cond (eqb i (r .moved)) (moved-by (r .step) (position s i u) (position s i v)) (eqb (position s i u) (position s i v))
 
--- the rule is one of command a, its guard dial is in its range at u, and v is u with its moved dial moved by its step
+-- v is u with the rule's moved dial moved by its step, compared dial by dial
+abbrev pub follows : Sizes → Rule → ℕ → ℕ → Bool
+follows s r u v = dial-follows s r 0 u v && (dial-follows s r 1 u v && dial-follows s r 2 u v)
+
+-- the rule is one of command a, its guard dial is in its range at u, and v is u with its moved dial moved
 abbrev pub rule-joins : Sizes → ℕ → ℕ → ℕ → Rule → Bool
-rule-joins s a u v r =
-    eqb (r .command) a && (in-range (r .low) (r .high) (position s (r .guard) u) && (dial-follows s r 0 u v && (dial-follows s r 1 u v && dial-follows s r 2 u v)))
+rule-joins s a u v r = eqb (r .command) a && (in-range (r .low) (r .high) (position s (r .guard) u) && follows s r u v)
 
 -- the flag's dial is in its range at u
 abbrev pub flag-shows : Sizes → ℕ → DialFlag → Bool
@@ -137,7 +140,8 @@ held-sizes s = record {
 -- which the constructor refuses, are held to them.
 abbrev pub held-meaning : Sizes → ℕ → List Rule → List DialFlag → Meaning
 held-meaning s c rules flags =
-    counted-meaning (held 1 mode-limit (settings (held-sizes s))) (held 1 command-limit c) (min (length flags) flag-limit) (held-sizes s) rules flags
+    let t = held-sizes s in
+    counted-meaning (held 1 mode-limit (settings t)) (held 1 command-limit c) (min (length flags) flag-limit) t rules flags
 
 -- so every dial graph keeps the limits
 pub held-limits : (s : Sizes) (c : ℕ) (rules : List Rule) (flags : List DialFlag) → Limits (held-meaning s c rules flags)

@@ -1,4 +1,4 @@
-//! The dial graph: a graph of modes that are the settings of dials, with rules that move a dial where another is in a range.
+//! The dial graph: a graph of modes that are the settings of dials, with rules that move a dial where a dial is in a range.
 
 mod checks;
 mod dials;

@@ -58,7 +58,7 @@ fn is_moved(step: i8, x: u8, y: u8) -> bool
 }
 
 // Whether a dial goes from u to v as the rule says: moved by the step if it is the moved dial, and left where it is if not.
-fn follows(sizes: Sizes, rule: &Rule, dial: Dial, u: Mode, v: Mode) -> bool
+fn dial_follows(sizes: Sizes, rule: &Rule, dial: Dial, u: Mode, v: Mode) -> bool
     requires { ⌜ Sizes-fit sizes ⌝ }
     ensures answer { λ r. ⌜ r ≡ dial-follows sizes (now (rule .entry)) dial u v ⌝ }
 {
@@ -78,9 +78,9 @@ fn joins_by(sizes: Sizes, rule: &Rule, a: Command, u: Mode, v: Mode) -> bool
 {
     match sizes.position(rule.guard, u) {
         x if rule.command == a && rule.low <= x && x <= rule.high => {
-            follows(sizes, rule, 0, u, v)
-                && follows(sizes, rule, 1, u, v)
-                && follows(sizes, rule, 2, u, v)
+            dial_follows(sizes, rule, 0, u, v)
+                && dial_follows(sizes, rule, 1, u, v)
+                && dial_follows(sizes, rule, 2, u, v)
         }
         _ => false,
     }

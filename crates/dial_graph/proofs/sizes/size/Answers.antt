@@ -1,6 +1,5 @@
 -- Within the list it is the element, and past its end it is 1.
 use mathlib.Core.Path.{sym}
-use borrow.Author.Needs.{needs}
 use Rattle.std.proofs.shelf.Lists.{getD-default, getD-past}
 use Rattle.dial_graph.proofs.sizes.size.Needs as need
 
