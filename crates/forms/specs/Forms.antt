@@ -15,6 +15,8 @@ use Rattle.forms.specs.declared.form.Next.{Next}
 use Rattle.forms.specs.declared.form.Next.the-variants.{Form, End}
 use Rattle.forms.specs.declared.form.Numeral.{Numeral}
 use Rattle.forms.specs.declared.form.Name.{Name}
+use Rattle.forms.specs.declared.form.Item.{Item}
+use Rattle.forms.specs.declared.form.Item.the-variants as item
 
 abbrev pub form-reading : Forms → Reading
 form-reading f = reading (f .words)
@@ -63,6 +65,19 @@ named closes at p = misplaced at p
 named line-end at p = misplaced at p
 named text-end at p = misplaced at p
 
+-- a word or a number, free of where its bytes lie, and its place
+pub data Item-at : Type 0 where
+  item-name : Word-at → Item-at
+  item-number : Numeral → Item-at
+
+abbrev pub itemized : Tok → Place → Reading → Out Item-at
+itemized (word w) at p = good (item-name (record { bytes = w; place = at })) p
+itemized (number n) at p = good (item-number (record { value = n; place = at })) p
+itemized opens at p = misplaced at p
+itemized closes at p = misplaced at p
+itemized line-end at p = misplaced at p
+itemized text-end at p = misplaced at p
+
 -- the end of a line, or of the text
 abbrev pub ended : Tok → Place → Reading → Out (Unit {0})
 ended (word w) at p = misplaced at p
@@ -98,6 +113,14 @@ next-eats (End at) after before = after ≤ before
 abbrev pub name-read : Result Name Fault → Reading → Out Word-at
 name-read (Ok w) p = good (record { bytes = w .bytes .now; place = w .place }) p
 name-read (Err e) p = bad (refused e)
+
+abbrev pub item-plain : Item → Item-at
+item-plain (item.Name w) = item-name (record { bytes = w .bytes .now; place = w .place })
+item-plain (item.Number n) = item-number n
+
+abbrev pub item-read : Result Item Fault → Reading → Out Item-at
+item-read (Ok i) p = good (item-plain i) p
+item-read (Err e) p = bad (refused e)
 
 abbrev pub past-blank : (Reading → Out Next) → LineStart → Reading → Out Next
 past-blank again line.Form p = good Form p

@@ -1,5 +1,7 @@
 //! What the forms of a text are made of.
 
+ghost use Rattle.std.specs.shelf.Text.{sameBytes};
+ghost use mathlib.Core.Path.{_≡_};
 use words::Place;
 use words::Words;
 
@@ -45,4 +47,27 @@ pub struct Name<'a> {
     pub bytes: &'a [u8],
     /// Where it begins.
     pub place: Place,
+}
+
+/// A word or a number of the text.
+#[derive(Clone, Copy)]
+pub enum Item<'a> {
+    /// A word.
+    Name(Name<'a>),
+    /// A number.
+    Number(Numeral),
+}
+
+/// Whether two words have the same letters.
+pub fn same_word(a: &[u8], b: &[u8]) -> bool
+    ensures answer { λ r. ⌜ r ≡ sameBytes (now (a .entry)) (now (b .entry)) ⌝ }
+{
+    equal(a, b)
+}
+
+// Whether the bytes are the same.
+fn equal(a: &[u8], b: &[u8]) -> bool
+    ensures answer { λ r. ⌜ r ≡ sameBytes (now (a .entry)) (now (b .entry)) ⌝ }
+{
+    a == b
 }

@@ -7,5 +7,7 @@ mod read;
 pub use form::Forms;
 pub use form::Next;
 /// Numbers and words of a text, with their places.
+pub use form::Item;
 pub use form::Name;
 pub use form::Numeral;
+pub use form::same_word;

@@ -3,11 +3,12 @@
 ghost use mathlib.Core.Path.{_≡_};
 ghost use Prim.Native.Nat.{_≤_};
 ghost use lib.ListN.{take};
-ghost use Rattle.forms.specs.Forms.{begun, closed, ended, form-reading, name-read, named, next-eats, next-form, numbered, opened, start-eats, taken};
+ghost use Rattle.forms.specs.Forms.{begun, closed, ended, form-reading, item-read, itemized, name-read, named, next-eats, next-form, numbered, opened, start-eats, taken};
 ghost use Rattle.std.specs.Vec.{made};
 ghost use Rattle.words.specs.Numbers.{layer-number, reason-number, refused, text-number};
 ghost use Rattle.words.specs.Words.{left, outcome, start, text-limit};
 use crate::form::Forms;
+use crate::form::Item;
 use crate::form::LineStart;
 use crate::form::Name;
 use crate::form::Next;
@@ -99,6 +100,25 @@ impl<'a> Forms<'a> {
                 bytes,
                 place: t.place,
             }),
+            _ => Err(self.misplaced(t.place)),
+        }
+    }
+
+    /// A word or a number, with its place.
+    pub fn item(&mut self) -> Result<Item<'a>, Fault>
+        ensures reads { λ r. ⌜ item-read r (form-reading (now (self .exit))) ≡ taken itemized (form-reading (now (self .entry))) ⌝ }
+        ensures shorter { λ _. ⌜ left (now (self .exit) .words) ≤ left (now (self .entry) .words) ⌝ }
+    {
+        let t = self.words.next()?;
+        match t.token {
+            Token::Word(bytes) => Ok(Item::Name(Name {
+                bytes,
+                place: t.place,
+            })),
+            Token::Number(value) => Ok(Item::Number(Numeral {
+                value,
+                place: t.place,
+            })),
             _ => Err(self.misplaced(t.place)),
         }
     }

@@ -2,38 +2,31 @@
 
 ghost use mathlib.Core.Path.{_≡_};
 ghost use Prim.Native.Nat.{_≤_};
-ghost use Rattle.std.specs.shelf.Text.{sameBytes};
 ghost use Rattle.table.specs.Table.{form-end, key-at, key-of, number-in, table-reading};
 ghost use Rattle.words.specs.Numbers.{reason-number, refused};
 ghost use Rattle.words.specs.Words.{left, outcome};
 use crate::contents::Keyword;
 use crate::table::Head;
 use crate::table::Table;
+use forms::same_word;
 use words::Fault;
 use words::Layer;
 use words::Place;
 use words::Reason;
 
-// Whether the word is the name.
-fn is_name(word: &[u8], name: &[u8]) -> bool
-    ensures answer { λ r. ⌜ r ≡ sameBytes (now (word .entry)) (now (name .entry)) ⌝ }
-{
-    word == name
-}
-
 // Which of the table's words it is.
 fn keyword(word: &[u8]) -> Option<Keyword>
     ensures answer { λ r. ⌜ r ≡ key-of (now (word .entry)) ⌝ }
 {
-    if is_name(word, b"modes") {
+    if same_word(word, b"modes") {
         Some(Keyword::Modes)
-    } else if is_name(word, b"commands") {
+    } else if same_word(word, b"commands") {
         Some(Keyword::Commands)
-    } else if is_name(word, b"flags") {
+    } else if same_word(word, b"flags") {
         Some(Keyword::Flags)
-    } else if is_name(word, b"mark") {
+    } else if same_word(word, b"mark") {
         Some(Keyword::Mark)
-    } else if is_name(word, b"arc") {
+    } else if same_word(word, b"arc") {
         Some(Keyword::Arc)
     } else {
         None

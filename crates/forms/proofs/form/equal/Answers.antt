@@ -1,7 +1,7 @@
 -- `==` on slices decides whether they have the same bytes.
 use Rattle.std.proofs.shelf.Equals.{matches-decides, sameBytes-decides}
 use Rattle.std.proofs.shelf.Ways.{same-from-decides}
-use Rattle.table.proofs.limits.is_name.Needs as need
+use Rattle.forms.proofs.form.equal.Needs as need
 
 pub returns : need.returns
 returns c = record { answer = same-from-decides _ _ (matches-decides _ _ _ (c .eq .ensures)) (sameBytes-decides _ _) }
