@@ -1,2 +1,3 @@
 -- The proofs of the worked cases.
+pub mod Computing
 pub mod Proved
