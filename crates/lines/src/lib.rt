@@ -1,5 +1,10 @@
 //! The lines that the programs print, as text.
 
+mod claims;
+
+/// The lines of a claim sheet.
+pub use claims::claim_line;
+pub use claims::row_line;
 ghost use Rattle.lines.specs.Lines.{number-line, refusal-line};
 ghost use Rattle.std.specs.Of.String.{string-bytes};
 ghost use Rattle.std.specs.Vec.{made};
