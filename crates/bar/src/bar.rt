@@ -17,7 +17,7 @@ pub struct Bar<'a, G: Graph> {
 impl<'a, G: Graph + Drop> Bar<'a, G> {
     /// The graph without the arcs of the commands, each of which the graph has to have; a command may be named twice.
     pub fn new(graph: G, commands: &'a [Command]) -> Result<Bar<'a, G>, Refusal>
-        ensures made { MatchResult result (λ b. CanBar commands.now (meaning graph) × (barred b.commands.now (meaning b.graph) ≡ barred commands.now (meaning graph))) (λ e. Ground commands.now (meaning graph) (refusal_number e)) }
+        ensures made { MatchResult result (λ b. CanBar commands.now (G.meaning graph) × (barred b.commands.now (G.meaning b.graph) ≡ barred commands.now (G.meaning graph))) (λ e. Ground commands.now (G.meaning graph) (refusal_number e)) }
     {
         if can_bar(&graph, commands) {
             Ok(Bar { graph, commands })
@@ -29,7 +29,7 @@ impl<'a, G: Graph + Drop> Bar<'a, G> {
 
 // Whether the graph has each of the commands.
 fn can_bar<G: Graph>(graph: &G, commands: &[Command]) -> bool
-    ensures exactly { Decides result (CanBar commands.now (meaning graph.now)) }
+    ensures exactly { Decides result (CanBar commands.now (G.meaning graph.now)) }
 {
     all_below(commands, graph.commands())
 }

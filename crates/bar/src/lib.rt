@@ -1,4 +1,5 @@
 //! A graph without the arcs of some commands.
+#![tactic(auto)]
 
 mod bar;
 

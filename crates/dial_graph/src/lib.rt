@@ -1,4 +1,5 @@
 //! The dial graph: a graph of modes that are the settings of dials, with rules that move a dial where a dial is in a range.
+#![tactic(auto)]
 
 mod checks;
 mod dials;

@@ -13,7 +13,7 @@ use logic::{Claim, Row, RowNumber, Scope, Sheet};
 /// Whether the sheet fits the graph: the parts of each row are rows before it, each of the right sort, each claim is of a row
 /// that is a formula, and the graph has every flag, command and mode that is named.
 pub fn fits<G: Graph>(graph: &G, sheet: &Sheet) -> bool
-    ensures exactly { Decides result (Fits (meaning graph.now) (sheet_rows sheet.now) (sheet_claims sheet.now)) }
+    ensures exactly { Decides result (Fits (G.meaning graph.now) (sheet_rows sheet.now) (sheet_claims sheet.now)) }
 {
     let rows = sheet.rows();
     is_orderly(rows)
@@ -72,7 +72,7 @@ fn program_before(rows: &[Row], i: usize, j: RowNumber) -> bool
 
 // Whether the graph has what each row names.
 fn all_named_there<G: Graph>(graph: &G, rows: &[Row]) -> bool
-    ensures exactly { Decides result ((i : ℕ) → i < length rows.now → NamedThere (meaning graph.now) (slice_index_or rows.now i Never)) }
+    ensures exactly { Decides result ((i : ℕ) → i < length rows.now → NamedThere (G.meaning graph.now) (slice_index_or rows.now i Never)) }
 {
     for row in rows {
         if !named_there(graph, *row) {
@@ -84,7 +84,7 @@ fn all_named_there<G: Graph>(graph: &G, rows: &[Row]) -> bool
 
 // Whether the graph has the flag or the command that the row names. Other rows name nothing of the graph.
 fn named_there<G: Graph>(graph: &G, row: Row) -> bool
-    ensures exactly { Decides result (NamedThere (meaning graph.now) row) }
+    ensures exactly { Decides result (NamedThere (G.meaning graph.now) row) }
 {
     match row {
         Row::Flag(p) => p < graph.flags(),
@@ -95,7 +95,7 @@ fn named_there<G: Graph>(graph: &G, row: Row) -> bool
 
 // Whether each claim is of a formula among the rows, at modes that the graph has.
 fn all_claims_there<G: Graph>(graph: &G, rows: &[Row], claims: &[Claim]) -> bool
-    ensures exactly { Decides result (All (ClaimThere (meaning graph.now) rows.now) claims.now) }
+    ensures exactly { Decides result (All (ClaimThere (G.meaning graph.now) rows.now) claims.now) }
 {
     for claim in claims {
         if !claim_there(graph, rows, *claim) {
@@ -107,7 +107,7 @@ fn all_claims_there<G: Graph>(graph: &G, rows: &[Row], claims: &[Claim]) -> bool
 
 // Whether the claim is of a formula among the rows, at modes that the graph has.
 fn claim_there<G: Graph>(graph: &G, rows: &[Row], claim: Claim) -> bool
-    ensures exactly { Decides result (ClaimThere (meaning graph.now) rows.now claim) }
+    ensures exactly { Decides result (ClaimThere (G.meaning graph.now) rows.now claim) }
 {
     let i = claim.row as usize;
     i < rows.len() && rows[i].is_formula() && scope_there(graph, claim.scope)
@@ -115,7 +115,7 @@ fn claim_there<G: Graph>(graph: &G, rows: &[Row], claim: Claim) -> bool
 
 // Whether the graph has the mode that is named, if one is.
 fn scope_there<G: Graph>(graph: &G, scope: Scope) -> bool
-    ensures exactly { Decides result (ScopeThere (meaning graph.now) scope) }
+    ensures exactly { Decides result (ScopeThere (G.meaning graph.now) scope) }
 {
     match scope {
         Scope::All => true,

@@ -1,4 +1,5 @@
 //! Whether a sheet fits a graph, so that each of its claims has a meaning there.
+#![tactic(auto)]
 
 mod checks;
 

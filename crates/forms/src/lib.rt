@@ -1,4 +1,5 @@
 //! The forms of a text: lines that hold one bracketed form each, and what may stand at each place of a form.
+#![tactic(auto)]
 
 mod form;
 mod read;

@@ -1,4 +1,5 @@
 //! A graph of modes: what can be asked of every one of them, whatever it is made from.
+#![tactic(auto)]
 
 ghost use Rattle.std.specs.Prelude.{◌≡◌};
 ghost use Rattle.graph.specs.Meaning.{Meaning, Limits, Lowest};

@@ -7,14 +7,14 @@ use crate::{Command, Graph, Mode};
 
 /// Whether mode u is stuck: every command that leads somewhere from u leads back to u. A number that is no mode is not stuck.
 pub fn is_stuck<G: Graph>(g: &G, u: Mode) -> bool
-    ensures exactly { Decides result (Stuck (meaning g.now) u) }
+    ensures exactly { Decides result (Stuck (G.meaning g.now) u) }
 {
     u < g.modes() && all_stay(g, u)
 }
 
 // Whether no command leads from u to another mode.
 fn all_stay<G: Graph>(g: &G, u: Mode) -> bool
-    ensures exactly { Decides result ((a : ℕ) → Stays (meaning g.now) a u) }
+    ensures exactly { Decides result ((a : ℕ) → Stays (G.meaning g.now) a u) }
 {
     for a in 0..g.commands() {
         if !stays(g, a, u) {
@@ -26,7 +26,7 @@ fn all_stay<G: Graph>(g: &G, u: Mode) -> bool
 
 // Whether command a leads from u nowhere but back to u. Where u is its lowest target, the question is whether it has a second.
 fn stays<G: Graph>(g: &G, a: Command, u: Mode) -> bool
-    ensures exactly { Decides result (Stays (meaning g.now) a u) }
+    ensures exactly { Decides result (Stays (G.meaning g.now) a u) }
 {
     match g.next_target(a, u, 0) {
         None => true,

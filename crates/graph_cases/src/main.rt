@@ -1,4 +1,5 @@
 //! Prints the worked cases of the graphs, and surveys graphs that lie over each other.
+#![tactic(auto)]
 
 use anyhow::anyhow;
 use bar::Bar;

@@ -1,4 +1,5 @@
 //! Prints, for each formula of a kit's claims, the modes where it is true, and for each program the pairs of modes that it joins.
+#![tactic(auto)]
 
 use anyhow::anyhow;
 use graph::Graph;

@@ -1,5 +1,6 @@
 //! Labels the worked cases, graphs that lie over each other and sheets that do not fit, and prints what each call answers and
 //! leaves.
+#![tactic(auto)]
 
 use anyhow::anyhow;
 use bar::Bar;

@@ -1,4 +1,5 @@
 //! The labeller for callers in C and Rust: rows in bytes, labelled over a table of bytes.
+#![tactic(auto)]
 
 mod export;
 mod packed;

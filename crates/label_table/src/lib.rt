@@ -1,4 +1,5 @@
 //! The label table: which bit is which fact, and what its bits say.
+#![tactic(auto)]
 
 mod layout;
 

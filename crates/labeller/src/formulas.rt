@@ -19,7 +19,7 @@ pub(crate) fn label_formula<G: Graph>(graph: &G, table: &mut [u8], q: RowNumber,
     requires sort { is_formula row ≡ true }
     requires parts { PartsBelow q row }
     requires clear { Clear q table.old }
-    ensures filled { Filled q (Entry (meaning graph.now) table.old row) table.old table.new }
+    ensures filled { Filled q (Entry (G.meaning graph.now) table.old row) table.old table.new }
 {
     for u in 0..graph.modes() {
         if says_true(graph, table, row, u) {
@@ -33,7 +33,7 @@ fn says_true<G: Graph>(graph: &G, table: &[u8], row: Row, u: Mode) -> bool
     requires sized { table_bytes ≤ length table.now }
     requires small { u < 64 }
     requires parts { PartsBelow 48 row }
-    ensures exactly { Decides result (FormulaSays (meaning graph.now) table.now row u) }
+    ensures exactly { Decides result (FormulaSays (G.meaning graph.now) table.now row u) }
 {
     match row {
         Row::Never => false,

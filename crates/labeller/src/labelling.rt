@@ -20,16 +20,16 @@ use logic::{Row, Sheet};
 /// A memory that is too short is refused first, and then a sheet that does not fit the graph; a refusal leaves all memory as it
 /// was.
 pub fn label<G: Graph>(graph: &G, sheet: &Sheet, memory: &mut [u8]) -> Result<(), Refusal>
-    ensures labelled { Labelling (meaning graph.now) (sheet_rows sheet.now) (sheet_claims sheet.now) memory.old result memory.new }
-    ensures only { OneTable (meaning graph.now) (sheet_rows sheet.now) result memory.new }
-    ensures alike { Alike (meaning graph.now) (sheet_rows sheet.now) (sheet_claims sheet.now) memory.old result memory.new }
+    ensures labelled { Labelling (G.meaning graph.now) (sheet_rows sheet.now) (sheet_claims sheet.now) memory.old result memory.new }
+    ensures only { OneTable (G.meaning graph.now) (sheet_rows sheet.now) result memory.new }
+    ensures alike { Alike (G.meaning graph.now) (sheet_rows sheet.now) (sheet_claims sheet.now) memory.old result memory.new }
 {
     label_checked(graph, sheet, memory)
 }
 
 // Labels where the memory suffices and the sheet fits.
 fn label_checked<G: Graph>(graph: &G, sheet: &Sheet, memory: &mut [u8]) -> Result<(), Refusal>
-    ensures labelled { Labelling (meaning graph.now) (sheet_rows sheet.now) (sheet_claims sheet.now) memory.old result memory.new }
+    ensures labelled { Labelling (G.meaning graph.now) (sheet_rows sheet.now) (sheet_claims sheet.now) memory.old result memory.new }
 {
     if memory.len() < TABLE_BYTES {
         return Err(Refusal::MemoryShort);
@@ -46,7 +46,7 @@ fn fill_front<G: Graph>(graph: &G, rows: &[Row], memory: &mut [u8])
     requires sized { table_bytes ≤ length memory.old }
     requires few { length rows.now ≤ 48 }
     requires orderly { Orderly rows.now }
-    ensures table { LabelTable (meaning graph.now) rows.now memory.new }
+    ensures table { LabelTable (G.meaning graph.now) rows.now memory.new }
     ensures beyond { (i : ℕ) → table_bytes ≤ i → slice_index memory.new i ≡ slice_index memory.old i }
 {
     fill_table(graph, rows, &mut memory[0..TABLE_BYTES]);
@@ -57,7 +57,7 @@ fn fill_table<G: Graph>(graph: &G, rows: &[Row], table: &mut [u8])
     requires exact { length table.old ≡ table_bytes }
     requires few { length rows.now ≤ 48 }
     requires orderly { Orderly rows.now }
-    ensures table { LabelTable (meaning graph.now) rows.now table.new }
+    ensures table { LabelTable (G.meaning graph.now) rows.now table.new }
 {
     table.fill(0);
     label_rows(graph, rows, table);

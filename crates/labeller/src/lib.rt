@@ -1,4 +1,5 @@
 //! The labeller: it fills a label table with the truth of every row of a sheet, over any graph.
+#![tactic(auto)]
 
 mod closing;
 mod compare;

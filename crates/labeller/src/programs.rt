@@ -17,7 +17,7 @@ use logic::{Row, RowNumber};
 fn add_targets<G: Graph>(graph: &G, table: &mut [u8], q: RowNumber, u: Mode, a: Command)
     requires sized { table_bytes ≤ length table.old }
     requires small { (q < 48) × (u < 64) }
-    ensures gained { Gained q u (λ v. (meaning graph.now).joins a u v ≡ true) table.old table.new }
+    ensures gained { Gained q u (λ v. (G.meaning graph.now).joins a u v ≡ true) table.old table.new }
 {
     let mut start = 0;
     while let Some(v) = graph.next_target(a, u, start) {
@@ -59,7 +59,7 @@ fn add_steps<G: Graph>(graph: &G, table: &mut [u8], q: RowNumber, u: Mode, row: 
     requires sized { table_bytes ≤ length table.old }
     requires small { (q < 48) × (u < 64) }
     requires parts { PartsBelow q row }
-    ensures gained { Gained q u (OneStep (meaning graph.now) table.old row u) table.old table.new }
+    ensures gained { Gained q u (OneStep (G.meaning graph.now) table.old row u) table.old table.new }
 {
     match row {
         Row::Command(a) => add_targets(graph, table, q, u, a),
@@ -111,9 +111,9 @@ pub(crate) fn label_program<G: Graph>(graph: &G, table: &mut [u8], q: RowNumber,
     requires small { q < 48 }
     requires sort { is_formula row ≡ false }
     requires parts { PartsBelow q row }
-    requires tidy { TidyBefore (meaning graph.now).modes q table.old }
+    requires tidy { TidyBefore (G.meaning graph.now).modes q table.old }
     requires clear { Clear q table.old }
-    ensures filled { Filled q (Entry (meaning graph.now) table.old row) table.old table.new }
+    ensures filled { Filled q (Entry (G.meaning graph.now) table.old row) table.old table.new }
 {
     add_all_steps(graph, table, q, row);
     if let Row::Repetition(_) = row {
@@ -127,7 +127,7 @@ fn add_all_steps<G: Graph>(graph: &G, table: &mut [u8], q: RowNumber, row: Row)
     requires small { q < 48 }
     requires parts { PartsBelow q row }
     requires clear { Clear q table.old }
-    ensures filled { Filled q (λ u v. (u < (meaning graph.now).modes) × OneStep (meaning graph.now) table.old row u v) table.old table.new }
+    ensures filled { Filled q (λ u v. (u < (G.meaning graph.now).modes) × OneStep (G.meaning graph.now) table.old row u v) table.old table.new }
 {
     for u in 0..graph.modes() {
         add_steps(graph, table, q, u, row);

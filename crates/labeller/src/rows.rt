@@ -18,7 +18,7 @@ pub(crate) fn label_rows<G: Graph>(graph: &G, rows: &[Row], table: &mut [u8])
     requires few { length rows.now ≤ 48 }
     requires orderly { Orderly rows.now }
     requires zeros { (i : ℕ) → i < table_bytes → slice_index table.old i ≡ 0 }
-    ensures table { LabelTable (meaning graph.now) rows.now table.new }
+    ensures table { LabelTable (G.meaning graph.now) rows.now table.new }
 {
     for (q, row) in rows.iter().enumerate() {
         label_row(graph, table, q as u8, *row);
@@ -30,9 +30,9 @@ fn label_row<G: Graph>(graph: &G, table: &mut [u8], q: RowNumber, row: Row)
     requires sized { table_bytes ≤ length table.old }
     requires small { q < 48 }
     requires parts { PartsBelow q row }
-    requires tidy { TidyBefore (meaning graph.now).modes q table.old }
+    requires tidy { TidyBefore (G.meaning graph.now).modes q table.old }
     requires clear { Clear q table.old }
-    ensures filled { Filled q (Entry (meaning graph.now) table.old row) table.old table.new }
+    ensures filled { Filled q (Entry (G.meaning graph.now) table.old row) table.old table.new }
 {
     if row.is_formula() {
         label_formula(graph, table, q, row);

@@ -20,7 +20,7 @@ pub struct Latch<G: Graph> {
 impl<G: Graph + Drop> Latch<G> {
     /// The graph with a latch on the command, which the graph has to have; it needs room for twice the modes and one more flag.
     pub fn new(graph: G, command: Command) -> Result<Latch<G>, Refusal>
-        ensures made { MatchResult result (λ l. CanLatch command (meaning graph) × (latch_meaning l.command (meaning l.graph) ≡ latched command (meaning graph))) (λ e. Ground command (meaning graph) (refusal_number e)) }
+        ensures made { MatchResult result (λ l. CanLatch command (G.meaning graph) × (latch_meaning l.command (G.meaning l.graph) ≡ latched command (G.meaning graph))) (λ e. Ground command (G.meaning graph) (refusal_number e)) }
     {
         if has_room(&graph) && command < graph.commands() {
             Ok(Latch { graph, command })
@@ -32,7 +32,7 @@ impl<G: Graph + Drop> Latch<G> {
 
 // Whether there is room for twice the modes and for one more flag.
 fn has_room<G: Graph>(graph: &G) -> bool
-    ensures answer { result ≡ has_room (meaning graph.now) }
+    ensures answer { result ≡ has_room (G.meaning graph.now) }
 {
     graph.modes() <= MODE_LIMIT / 2 && graph.flags() < FLAG_LIMIT
 }

@@ -1,4 +1,5 @@
 //! A graph with a command that fires once.
+#![tactic(auto)]
 
 mod latch;
 

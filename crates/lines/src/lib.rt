@@ -1,4 +1,5 @@
 //! The lines that the programs print, as text.
+#![tactic(auto)]
 
 mod claims;
 mod labels;

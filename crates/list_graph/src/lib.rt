@@ -1,4 +1,5 @@
 //! The list graph: a graph of modes that is read from a table of bytes.
+#![tactic(auto)]
 
 mod layout;
 mod list;

@@ -1,4 +1,5 @@
 //! Claims in dynamic logic with converse: the rows of a claim sheet, and what they mean.
+#![tactic(auto)]
 
 mod decided;
 mod filling;

@@ -1,4 +1,5 @@
 //! Sets of modes in bytes. A set has eight bytes, with a bit for each of 64 modes; it is named by its first byte.
+#![tactic(auto)]
 
 mod member;
 

@@ -1,4 +1,5 @@
 //! The text of a claim sheet: read into rows and claims.
+#![tactic(auto)]
 
 mod claims;
 mod read;

@@ -1,4 +1,5 @@
 //! Reads good claim sheets and sheets with each fault, and prints what each call answers and what it leaves in the sheet.
+#![tactic(auto)]
 
 use lines::refusal_line;
 use logic::{Claim, Row, Scope, Sheet};

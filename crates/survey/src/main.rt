@@ -1,4 +1,5 @@
 //! Prints what a mode table counts, each mode that no command leads out of to another, and the claims of a kit by their rows.
+#![tactic(auto)]
 
 use anyhow::anyhow;
 use graph::{Graph, is_stuck};

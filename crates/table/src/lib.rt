@@ -1,4 +1,5 @@
 //! The text of a mode table: read into the bytes of a list graph.
+#![tactic(auto)]
 
 mod contents;
 mod entries;

@@ -1,4 +1,5 @@
 //! Reads good tables and tables with each fault, and prints what each call answers and what it leaves in memory.
+#![tactic(auto)]
 
 use lines::refusal_line;
 use list_graph::TABLE_BYTES;

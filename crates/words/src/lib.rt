@@ -1,4 +1,5 @@
 //! The words of a text: brackets, numbers, words and line ends, each with its line and column.
+#![tactic(auto)]
 
 mod cursor;
 mod fault;

@@ -1,4 +1,5 @@
 //! The worked cases: facts about small models, proved of the definitions that the contracts cite.
+#![tactic(auto)]
 
 ghost use Rattle.worked_cases.specs.Cases.{WorkedCases};
 ghost use Rattle.std.specs.Prelude.{◌≡◌};

@@ -8,7 +8,7 @@ use Rattle.sheet.proofs.read.read_sized.Goals as goal
 
 pub returns-in_err-check_size : goal.returns-in_err-check_size
 returns-in_err-check_size c =
-    let p = err_from_is_err_and c.from-residual.result c.from-residual.ensures.1 in
+    let p = err_from_is_err_and c.from_residual.result c.from_residual.ensures.1 in
     rw (p.1, p.2) (record { answer = ap (answer_by c.args.text.now (sheet_rows c.args.sheet.now) (sheet_claims c.args.sheet.now)) c.in_err-check_size.ensures.answer })
 
 pub returns : goal.returns

@@ -7,7 +7,7 @@ use Rattle.table.proofs.read.read_sized.Goals as goal
 
 pub returns-in_err-check_sizes : goal.returns-in_err-check_sizes
 returns-in_err-check_sizes c =
-    let p = err_from_is_err_and c.from-residual.result c.from-residual.ensures.1 in
+    let p = err_from_is_err_and c.from_residual.result c.from_residual.ensures.1 in
     rw (p.1, p.2) (record { answer = ap (answer_by c.args.text.now c.args.memory.now) c.in_err-check_sizes.ensures.answer })
 
 pub returns : goal.returns

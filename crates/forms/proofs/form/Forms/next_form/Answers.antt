@@ -12,7 +12,7 @@ loop-start-init c = (suc (left c.args.self.now.words), omega arith, refl, omega 
 pub returns-in_err-start : goal.returns-in_err-start
 returns-in_err-start c =
     let i = c.loop-start.invariant in
-    let p = err_from_is_err_and c.from-residual.result c.from-residual.ensures.1 in
+    let p = err_from_is_err_and c.from_residual.result c.from_residual.ensures.1 in
     rw (p.1, p.2) (record { reads = sym (i.2 ∙ within_lines_bad i.0 _ (form_reading c.loop-start.self) _ i.1 c.in_err-start.ensures.reads); eats = tt })
 
 pub returns-in-Form : goal.returns-in-Form

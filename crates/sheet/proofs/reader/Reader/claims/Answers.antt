@@ -16,7 +16,7 @@ loop-claim-init c = (suc (left c.args.self.now.forms.words), omega arith, refl)
 pub returns-in_err-claim : goal.returns-in_err-claim
 returns-in_err-claim c =
     let i = c.loop-claim.invariant in
-    let p = err_from_is_err_and c.from-residual.result c.from-residual.ensures.1 in
+    let p = err_from_is_err_and c.from_residual.result c.from_residual.ensures.1 in
     rw (p.1, p.2) (record { reads = sym (i.2 ∙ claims_failed i.0 _ (sheet_claims c.loop-claim.sheet) (state c.loop-claim.self c.loop-claim.sheet) _ i.1 c.in_err-claim.ensures.reads) })
 
 pub loop-claim-preserved : goal.loop-claim-preserved

@@ -12,7 +12,7 @@ loop-entry-init c = (suc (left c.args.self.now.forms.words), omega arith, refl)
 pub returns-in_err-entry : goal.returns-in_err-entry
 returns-in_err-entry c =
     let i = c.loop-entry.invariant in
-    let p = err_from_is_err_and c.from-residual.result c.from-residual.ensures.1 in
+    let p = err_from_is_err_and c.from_residual.result c.from_residual.ensures.1 in
     rw (p.1, p.2) (record { memory = sym (i.2 ∙ laid_bad i.0 _ c.args.counts (table_reading c.loop-entry.self) _ c.loop-entry.bytes i.1 c.in_err-entry.ensures.reads) })
 
 pub loop-entry-preserved : goal.loop-entry-preserved
