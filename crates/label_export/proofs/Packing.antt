@@ -1,5 +1,5 @@
 -- Rows that are put behind each other are those that the bytes mean.
-use Rattle.std.proofs.Common.{◌≡◌, ℕ, ◌<◌, ◌≤◌, List, [], ◌∷◌, ◌++◌, length, get_or, drop, Some, None, Option, sym, refl, ap, ◌∙◌, append_assoc, arith, length-append}
+use Rattle.std.proofs.Common.{◌≡◌, ℕ, ◌<◌, ◌≤◌, List, [], ◌∷◌, ◌++◌, length, get_or, drop, Some, None, Option, sym, refl, ap, subst, ◌∙◌, append_assoc, arith, length-append}
 use Rattle.std.proofs.lemmas.Bool.{cond-true, lt-ltb}
 use Rattle.logic.specs.Sheets.{row_limit, rows_with}
 use Rattle.logic.specs.declared.row.Row.{Row}
@@ -15,6 +15,16 @@ behind rows (Some others) = Some (rows ++ others)
 pub record SoFar (bytes : List ℕ) (rows : List Row) (rest : List ℕ) : Type 0 where
   pub made : rows_of bytes ≡ behind rows (rows_of rest)
   pub room : length rows ≤ row_limit
+
+-- no rows, and others behind them
+behind_none : (others : Option (List Row)) → others ≡ behind [] others
+behind_none None = refl
+behind_none (Some others) = refl
+
+-- before the first three bytes there are no rows
+pub so_far_none : (bytes : List ℕ) (rows : List Row) → rows ≡ [] → SoFar bytes rows bytes
+so_far_none bytes rows none =
+    subst (λ (front : List Row). SoFar bytes front bytes) (sym none) (record { made = behind_none (rows_of bytes); room = omega arith })
 
 -- one row more
 behind_more : (rows : List Row) (row : Row) (others : Option (List Row)) → behind rows (before (Some row) others) ≡ behind (rows ++ row ∷ []) others

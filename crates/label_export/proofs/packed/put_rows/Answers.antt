@@ -1,10 +1,13 @@
 -- One row more is in the sheet, or there is no room for it.
-use Rattle.std.proofs.Common.{◌≡◌, ◌<◌, ◌≤◌, length, arith, rules}
+use Rattle.std.proofs.Common.{◌≡◌, ◌<◌, ◌≤◌, length, refl, arith, rules}
 use Rattle.std.proofs.lemmas.List.{take_all, length-drop}
 use Rattle.std.proofs.lemmas.Bool.Decides.{nat_tests}
 use Rattle.logic.specs.Sheets.{row_limit, sheet_rows}
-use Rattle.label_export.proofs.Packing.{Front, so_far_more, no_room}
+use Rattle.label_export.proofs.Packing.{Front, so_far_none, so_far_more, no_room}
 use Rattle.label_export.proofs.packed.put_rows.Goals as goal
+
+pub loop-rest-init : goal.loop-rest-init
+loop-rest-init c = (so_far_none c.args.bytes.now (sheet_rows c.args.sheet.now) c.requires, refl)
 
 pub returns-then-is_none : goal.returns-then-is_none
 returns-then-is_none c =
