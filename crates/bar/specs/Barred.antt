@@ -1,7 +1,7 @@
 -- The graph without the arcs of some commands, and when it can be made.
 use Rattle.std.specs.Prelude.{◌≡◌, ℕ, ◌<◌, Bool, true, false, not, ◌&&◌, ◌||◌, List, [], ◌∷◌, ◌==◌}
 use Rattle.std.proofs.lemmas.Bool.{and_parts}
-use Rattle.std.specs.List.{AllByRecursion as All}
+use Rattle.std.specs.List.{AllByRecursion}
 use Rattle.graph.specs.Meaning.{Meaning, Limits}
 
 -- the command is in the list
@@ -32,7 +32,7 @@ barred_limits commands m l = record {
 
 -- a bar can be made where the graph has each of the commands
 abbrev pub CanBar : List ℕ → Meaning → Type 0
-CanBar commands m = All (λ a. a < m.commands) commands
+CanBar commands m = AllByRecursion (λ a. a < m.commands) commands
 
 -- the ground of a refusal by its number: 16 where a command is not there
 abbrev pub Ground : List ℕ → Meaning → ℕ → Type 0

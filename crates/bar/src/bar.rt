@@ -3,7 +3,7 @@
 ghost use Rattle.bar.specs.Barred.{CanBar, Ground, barred, barred_limits, listed};
 ghost use Rattle.graph.specs.Refusals.{refusal_number};
 ghost use Rattle.std.specs.Prelude.{◌≡◌, ◌<◌, Decides, MatchResult};
-ghost use Rattle.std.specs.List.{AllByRecursion as All};
+ghost use Rattle.std.specs.List.{AllByRecursion};
 
 use graph::{Command, Flag, Graph, Mode, Refusal};
 
@@ -36,7 +36,7 @@ fn can_bar<G: Graph>(graph: &G, commands: &[Command]) -> bool
 
 // Whether each command is below the count.
 fn all_below(commands: &[Command], count: u8) -> bool
-    ensures exactly { Decides result (All (λ a. a < count) commands.now) }
+    ensures exactly { Decides result (AllByRecursion (λ a. a < count) commands.now) }
 {
     for a in commands {
         if *a >= count {

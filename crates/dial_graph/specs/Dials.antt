@@ -2,7 +2,7 @@
 use Rattle.std.specs.Prelude.{ℕ, ◌+◌, ◌*◌, ◌/◌, ◌%◌, ◌<◌, ◌≤◌, min, max, Bool, cond, ◌&&◌, List, length, ℤ, pos, negsuc, neg_ℤ, ◌≤ℤ◌, ◌==◌, nat_le, nat_lt, slice_index_or}
 use Rattle.std.proofs.Common.{arith}
 use Rattle.std.proofs.lemmas.Bool.{and_parts, ltb-true}
-use Rattle.std.specs.List.{AllByRecursion as All}
+use Rattle.std.specs.List.{AllByRecursion}
 use Rattle.graph.specs.Meaning.{Meaning, Limits, mode_limit, command_limit, flag_limit}
 use Rattle.dial_graph.specs.Lists.{some_of, test_at}
 use Rattle.dial_graph.specs.declared.rules.Rule.{Rule}
@@ -115,8 +115,8 @@ pub record Fits (dials : List ℕ) (c : ℕ) (rules : List Rule) (flags : List D
   pub commands_high : c ≤ command_limit
   pub rules_high : length rules ≤ rule_limit
   pub flags_high : length flags ≤ flag_limit
-  pub rules_fit : All (RuleFits (length dials) c) rules
-  pub flags_fit : All (FlagFits (length dials)) flags
+  pub rules_fit : AllByRecursion (RuleFits (length dials) c) rules
+  pub flags_fit : AllByRecursion (FlagFits (length dials)) flags
 
 -- a number held between two limits
 abbrev pub held : ℕ → ℕ → ℕ → ℕ

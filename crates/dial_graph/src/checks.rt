@@ -1,7 +1,7 @@
 //! What is checked when a dial graph is made.
 
 ghost use Rattle.std.specs.Prelude.{Decides};
-ghost use Rattle.std.specs.List.{AllByRecursion as All};
+ghost use Rattle.std.specs.List.{AllByRecursion};
 ghost use Rattle.dial_graph.specs.Dials.{FlagFits, Fits, RuleFits};
 ghost use Rattle.dial_graph.specs.Made.{Fitting};
 
@@ -22,7 +22,7 @@ fn rule_fits(count: usize, commands: u8, rule: &Rule) -> bool
 
 // Whether every rule fits.
 fn rules_fit(count: usize, commands: u8, rules: &[Rule]) -> bool
-    ensures exactly { Decides result (All (RuleFits count commands) rules.now) }
+    ensures exactly { Decides result (AllByRecursion (RuleFits count commands) rules.now) }
 {
     for rule in rules {
         if !rule_fits(count, commands, rule) {
@@ -34,7 +34,7 @@ fn rules_fit(count: usize, commands: u8, rules: &[Rule]) -> bool
 
 // Whether every flag names a dial that is there.
 fn flags_fit(count: usize, flags: &[DialFlag]) -> bool
-    ensures exactly { Decides result (All (FlagFits count) flags.now) }
+    ensures exactly { Decides result (AllByRecursion (FlagFits count) flags.now) }
 {
     for flag in flags {
         if flag.dial as usize >= count {

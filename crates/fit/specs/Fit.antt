@@ -1,6 +1,6 @@
 -- When a sheet fits a graph: its rows are in order, and all that its rows and its claims name is there.
 use Rattle.std.specs.Prelude.{◌≡◌, ℕ, ◌<◌, true, List, length, slice_index_or}
-use Rattle.std.specs.List.{AllByRecursion as All}
+use Rattle.std.specs.List.{AllByRecursion}
 use Rattle.graph.specs.Meaning.{Meaning}
 use Rattle.logic.specs.Rows.{is_formula, Orderly}
 use Rattle.logic.specs.declared.row.Claim.{Claim}
@@ -42,4 +42,4 @@ pub record ClaimThere (m : Meaning) (rows : List Row) (c : Claim) : Type 0 where
 pub record Fits (m : Meaning) (rows : List Row) (claims : List Claim) : Type 0 where
   pub orderly : Orderly rows
   pub named : (i : ℕ) → i < length rows → NamedThere m (slice_index_or rows i Never)
-  pub claimed : All (ClaimThere m rows) claims
+  pub claimed : AllByRecursion (ClaimThere m rows) claims

@@ -5,7 +5,7 @@ ghost use Rattle.fit.specs.Fit.{ClaimThere, Fits, NamedThere, ScopeThere};
 ghost use Rattle.logic.specs.Rows.{FormulaBefore, Orderly, PartsBefore, ProgramBefore};
 ghost use Rattle.logic.specs.Sheets.{sheet_claims, sheet_rows};
 ghost use Rattle.logic.specs.declared.row.Row.TheVariants.{Never};
-ghost use Rattle.std.specs.List.{AllByRecursion as All};
+ghost use Rattle.std.specs.List.{AllByRecursion};
 
 use graph::Graph;
 use logic::{Claim, Row, RowNumber, Scope, Sheet};
@@ -95,7 +95,7 @@ fn named_there<G: Graph>(graph: &G, row: Row) -> bool
 
 // Whether each claim is of a formula among the rows, at modes that the graph has.
 fn all_claims_there<G: Graph>(graph: &G, rows: &[Row], claims: &[Claim]) -> bool
-    ensures exactly { Decides result (All (ClaimThere (G.meaning graph.now) rows.now) claims.now) }
+    ensures exactly { Decides result (AllByRecursion (ClaimThere (G.meaning graph.now) rows.now) claims.now) }
 {
     for claim in claims {
         if !claim_there(graph, rows, *claim) {

@@ -1,5 +1,5 @@
 -- Where in a table of bytes each flag and each arc has its bit, and what setting one changes.
-use Rattle.std.specs.Prelude.{ℕ, ◌+◌, ◌*◌, ◌/◌, ◌%◌, ◌^◌, Bool, List, set, ◌==◌, bit_or, slice_index, slice_set}
+use Rattle.std.specs.Prelude.{ℕ, ◌+◌, ◌*◌, ◌/◌, ◌%◌, ◌^◌, Bool, List, ◌==◌, bit_or, slice_index, slice_set}
 
 -- the bytes of a whole table: 16 flags of 8 bytes, and then 16 commands of 64 modes of 8 bytes
 abbrev pub table_bytes : ℕ

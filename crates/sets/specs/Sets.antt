@@ -1,5 +1,5 @@
 -- Sets of modes in bytes: which bit says that a mode is in a set, and what adding to a set changes.
-use Rattle.std.specs.Prelude.{◌≡◌, ℕ, ◌+◌, ◌/◌, ◌%◌, ◌^◌, ◌<◌, ◌≤◌, Bool, true, ◌||◌, List, length, set, ◌==◌, bit_or, slice_index, slice_set}
+use Rattle.std.specs.Prelude.{◌≡◌, ℕ, ◌+◌, ◌/◌, ◌%◌, ◌^◌, ◌<◌, ◌≤◌, Bool, true, ◌||◌, List, length, ◌==◌, bit_or, slice_index, slice_set}
 use Rattle.graph.specs.Meaning.{mode_limit}
 
 -- the bytes of a set: a bit for each of 64 modes

@@ -2,7 +2,7 @@
 use Rattle.std.proofs.Common.{◌≡◌, ℕ, zero, suc, ◌+◌, ◌<◌, ◌≤◌, Bool, true, false, cond, ltb, List, [], ◌∷◌, ◌++◌, map, length, Some, None, Ok, Err, Option, Result, sym, refl, ap, ◌∙◌, subst, append_assoc, append-nil, arith}
 use Rattle.std.proofs.lemmas.List.{length-map, length_push}
 use Rattle.std.proofs.lemmas.Bool.{ltb-false, lt-ltb}
-use Rattle.std.specs.List.{AllByRecursion as All}
+use Rattle.std.specs.List.{AllByRecursion}
 use Rattle.words.specs.declared.fault.Fault.{Fault}
 use Rattle.words.specs.Numbers.{Refused}
 use Rattle.words.specs.Words.{Tok, Reading, start}
@@ -31,7 +31,7 @@ claims_one : (c : Claim) (claims : List Claim) → length claims < 16 → claims
 claims_one c claims low = let t = lt-ltb (length claims) 16 low in rw t refl
 
 -- all claims that are spelled are read
-claims_made : (k : ℕ) (claims : List Claim) (xs : List Sentence) (s : State) (ts : List Tok) → length xs < k → length claims + length xs ≤ 16 → All SentenceFits xs → length (rows_after xs s.rows) ≤ 48 → Reads s.at ts → Lines ts (map claim_tokens xs) → (q : Reading) × (within_claims k claims s ≡ done (claims ++ claims_after xs s.rows) (state q (rows_after xs s.rows)))
+claims_made : (k : ℕ) (claims : List Claim) (xs : List Sentence) (s : State) (ts : List Tok) → length xs < k → length claims + length xs ≤ 16 → AllByRecursion SentenceFits xs → length (rows_after xs s.rows) ≤ 48 → Reads s.at ts → Lines ts (map claim_tokens xs) → (q : Reading) × (within_claims k claims s ≡ done (claims ++ claims_after xs s.rows) (state q (rows_after xs s.rows)))
 claims_made zero claims xs s ts enough room fits few r lines = absurd (omega arith)
 claims_made (suc k) claims [] s ts enough room fits few r lines =
     let (q, e) = no_claim_made claims s ts r lines in
@@ -54,7 +54,7 @@ claims_made (suc k) claims (x ∷ xs) s ts enough room fits few r lines =
 record AllRead (claims : List Claim) (all : List Claim) (s t : State) : Type 0 where
   sentences : List Sentence
   tokens : List Tok
-  fits : All SentenceFits sentences
+  fits : AllByRecursion SentenceFits sentences
   reads : Reads s.at tokens
   lines : Lines tokens (map claim_tokens sentences)
   rows : t.rows ≡ rows_after sentences s.rows

@@ -1,6 +1,6 @@
 -- The claim sheet as a language: which texts are sheets within the limits, and the rows and claims that a sheet makes.
 use Rattle.std.specs.Prelude.{◌≡◌, ℕ, suc, ◌-◌, ◌<◌, ◌≤◌, max, List, [], ◌∷◌, ◌++◌, map, length, codes, Result, MatchResult}
-use Rattle.std.specs.List.{AllByRecursion as All}
+use Rattle.std.specs.List.{AllByRecursion}
 use Rattle.words.specs.declared.fault.Fault.{Fault}
 use Rattle.words.specs.Words.{Tok, word, number, opens, closes, text_limit}
 use Rattle.words.specs.Spelling.{Spells}
@@ -153,7 +153,7 @@ pub record IsSheet (text : List ℕ) (sentences : List Sentence) : Type 0 where
   pub lines : Lines tokens (map claim_tokens sentences)
   pub claims : length sentences ≤ claim_limit
   pub rows : length (rows_after sentences []) ≤ row_limit
-  pub fits : All SentenceFits sentences
+  pub fits : AllByRecursion SentenceFits sentences
 
 -- each claim has the scope of its sentence, and its row stands for the sentence's formula
 abbrev pub ClaimsStand : List Row → List Claim → List Sentence → Type 0

@@ -10,7 +10,7 @@ use Rattle.words.proofs.Tokens.{Reads, reads_from_spells, spells_from_reads, len
 use Rattle.forms.specs.Lines.{Lines}
 use Rattle.forms.proofs.Spelled.{length_lines}
 use Rattle.list_graph.specs.Lists.{CountsFit}
-use Rattle.std.specs.List.{AllByRecursion as All}
+use Rattle.std.specs.List.{AllByRecursion}
 use Rattle.table.specs.declared.contents.Counts.{Counts}
 use Rattle.table.specs.declared.contents.Entry.{Entry}
 use Rattle.table.specs.declared.contents.Keyword.TheVariants as key
@@ -20,7 +20,7 @@ use Rattle.table.proofs.LinesRead.{bind_parts, good_value, good_reading, head_fr
 use Rattle.table.proofs.Says.{entries_say}
 use Rattle.table.proofs.Whole.{accepts_not_refuses, answer_over}
 
-contents_from_reads : {p : Reading} {ts : List Tok} (c : Counts) (es : List Entry) → CountsFit c.modes c.commands c.flags → All (EntryFits c) es → Reads p ts → Lines ts (table_forms c es) → (q : Reading) × (contents_at p ≡ good (record { counts = c; entries = es }) q)
+contents_from_reads : {p : Reading} {ts : List Tok} (c : Counts) (es : List Entry) → CountsFit c.modes c.commands c.flags → AllByRecursion (EntryFits c) es → Reads p ts → Lines ts (table_forms c es) → (q : Reading) × (contents_at p ≡ good (record { counts = c; entries = es }) q)
 unfolding entries_from
 contents_from_reads {p} {ts} c es within fits r lines =
     let (p1, us1, e1, r1, l1) = head_from_reads key.Modes 1 65 c.modes within.modes_low (omega (arith, within.modes_high)) r lines in
@@ -33,7 +33,7 @@ contents_from_reads {p} {ts} c es within fits r lines =
 -- the tokens of a table that was read
 record ContentsRead (p : Reading) (t : Contents) : Type 0 where
   within : CountsFit t.counts.modes t.counts.commands t.counts.flags
-  fits : All (EntryFits t.counts) t.entries
+  fits : AllByRecursion (EntryFits t.counts) t.entries
   tokens : List Tok
   reads : Reads p tokens
   lines : Lines tokens (table_forms t.counts t.entries)
@@ -54,7 +54,7 @@ contents_read p q t e =
     let (ts1, l1, b1, r1, m1) = reads_from_head key.Modes 1 65 n g1 r2 m2 in
     let read : ContentsRead p (record { counts = counts_of n k f; entries = es }) = record {
       within = record { modes_low = l1; modes_high = omega arith; commands_low = l2; commands_high = omega arith; flags_high = omega arith };
-      fits = subst (λ (x : Counts). All (EntryFits x) es) (sym counts) fits;
+      fits = subst (λ (x : Counts). AllByRecursion (EntryFits x) es) (sym counts) fits;
       tokens = ts1;
       reads = r1;
       lines = m1;

@@ -13,7 +13,7 @@ use Rattle.forms.specs.declared.form.Numeral.{Numeral}
 use Rattle.forms.specs.Forms.{WordAt, closed, ended, named, numbered, next_form, taken, misplaced}
 use Rattle.forms.specs.Lines.{Lines}
 use Rattle.forms.proofs.Spelled.{After, closed_from_reads, reads_from_closed, numbered_from_reads, reads_from_numbered, named_from_reads, reads_from_named, ended_from_reads, reads_from_ended, form_from_reads, reads_from_form, end_from_reads, reads_from_end}
-use Rattle.std.specs.List.{AllByRecursion as All}
+use Rattle.std.specs.List.{AllByRecursion}
 use Rattle.table.specs.declared.contents.Counts.{Counts}
 use Rattle.table.specs.declared.contents.Entry.{Entry}
 use Rattle.table.specs.declared.contents.Entry.TheVariants.{Mark, Arc}
@@ -293,7 +293,7 @@ entry_read p q c o e =
     entry_line_read p c next s q o f g
 
 -- all entries
-pub entries_from_reads : (k : ℕ) (c : Counts) (es : List Entry) {p : Reading} {ts : List Tok} → length es < k → All (EntryFits c) es → Reads p ts → Lines ts (map entry_tokens es) → (q : Reading) × (within_entries k c p ≡ good es q)
+pub entries_from_reads : (k : ℕ) (c : Counts) (es : List Entry) {p : Reading} {ts : List Tok} → length es < k → AllByRecursion (EntryFits c) es → Reads p ts → Lines ts (map entry_tokens es) → (q : Reading) × (within_entries k c p ≡ good es q)
 entries_from_reads zero c es lt fits r lines = absurd (omega arith)
 entries_from_reads (suc k) c [] lt fits r lines =
     let (q, e) = none_from_reads c r lines in
@@ -304,7 +304,7 @@ entries_from_reads (suc k) c (x ∷ es) lt fits r lines =
     (t, rw (e, rest) refl)
 
 abbrev EntriesRead : Counts → List Entry → Reading → Type 0
-EntriesRead c es p = (ts : List Tok) × All (EntryFits c) es × Reads p ts × Lines ts (map entry_tokens es)
+EntriesRead c es p = (ts : List Tok) × AllByRecursion (EntryFits c) es × Reads p ts × Lines ts (map entry_tokens es)
 
 and_more_read : (p q s : Reading) (k : ℕ) (c : Counts) (o : Option Entry) (es : List Entry) → ((p q : Reading) (es : List Entry) → within_entries k c p ≡ good es q → EntriesRead c es p) → LineRead c o p s → and_more (within_entries k c) o s ≡ good es q → EntriesRead c es p
 and_more_read p q s k c None es others line e = let (ts, r, l) = line in subst (λ (x : List Entry). EntriesRead c x p) (good_value e) (ts, tt, r, l)

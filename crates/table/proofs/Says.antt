@@ -7,7 +7,7 @@ use Rattle.std.proofs.lemmas.Bool.{or_cases, or_left, or_right, and_parts, and_f
 use Rattle.list_graph.specs.Layout.{bit, flag_bit, arc_bit, flag_byte, arc_byte, marked, joined}
 use Rattle.list_graph.proofs.Bits.{bit_zero, flag_bit_marked, arc_bit_marked, flag_bit_joined, arc_bit_joined, length_marked, length_joined}
 use Rattle.list_graph.specs.Lists.{CountsFit}
-use Rattle.std.specs.List.{AllByRecursion as All}
+use Rattle.std.specs.List.{AllByRecursion}
 use Rattle.table.specs.declared.contents.Counts.{Counts}
 use Rattle.table.specs.declared.contents.Entry.{Entry}
 use Rattle.table.specs.declared.contents.Entry.TheVariants.{Mark, Arc}
@@ -80,14 +80,14 @@ unfolding Sets
 sets_none b = (inl, ⊎_elim (λ t. t) (λ n. absurd n))
 
 module _ (c : Counts) (few : CountsFit c.modes c.commands c.flags) where
-  marks_set : (es : List Entry) → All (EntryFits c) es → (bytes : List ℕ) → 8320 ≤ length bytes → (p u : ℕ) → p < 16 → u < 64 → Sets (flag_bit (with_entries es bytes) p u) (flag_bit bytes p u) (Listed (Mark p u) es)
+  marks_set : (es : List Entry) → AllByRecursion (EntryFits c) es → (bytes : List ℕ) → 8320 ≤ length bytes → (p u : ℕ) → p < 16 → u < 64 → Sets (flag_bit (with_entries es bytes) p u) (flag_bit bytes p u) (Listed (Mark p u) es)
   marks_set [] fits bytes long p u hp hu = sets_none (flag_bit bytes p u)
   marks_set (e ∷ es) fits bytes long p u hp hu =
       sets_more (flag_bit (with_entries es (with_entry e bytes)) p u) (flag_bit (with_entry e bytes) p u) (flag_bit bytes p u) (e ≡ Mark p u) (Listed (Mark p u) es)
       (mark_set c few e fits.0 bytes long p u hp hu)
       (marks_set es fits.1 (with_entry e bytes) (omega (arith, length_with_entry e bytes)) p u hp hu)
 
-  arcs_set : (es : List Entry) → All (EntryFits c) es → (bytes : List ℕ) → 8320 ≤ length bytes → (a u v : ℕ) → u < 64 → v < 64 → Sets (arc_bit (with_entries es bytes) a u v) (arc_bit bytes a u v) (Listed (Arc a u v) es)
+  arcs_set : (es : List Entry) → AllByRecursion (EntryFits c) es → (bytes : List ℕ) → 8320 ≤ length bytes → (a u v : ℕ) → u < 64 → v < 64 → Sets (arc_bit (with_entries es bytes) a u v) (arc_bit bytes a u v) (Listed (Arc a u v) es)
   arcs_set [] fits bytes long a u v hu hv = sets_none (arc_bit bytes a u v)
   arcs_set (e ∷ es) fits bytes long a u v hu hv =
       sets_more (arc_bit (with_entries es (with_entry e bytes)) a u v) (arc_bit (with_entry e bytes) a u v) (arc_bit bytes a u v) (e ≡ Arc a u v) (Listed (Arc a u v) es)
@@ -113,7 +113,7 @@ unfolding Sets
 decides_set b after before P same clear s =
     (λ t. ⊎_elim (λ f. absurd (false≢true (sym clear ∙ f))) (λ p. p) (s.0 (sym same ∙ t)), λ p. same ∙ s.1 (inr p))
 
-pub entries_say : (c : Counts) → CountsFit c.modes c.commands c.flags → (es : List Entry) → All (EntryFits c) es → (rest : List ℕ) → Says es (with_entries es blank ++ rest)
+pub entries_say : (c : Counts) → CountsFit c.modes c.commands c.flags → (es : List Entry) → AllByRecursion (EntryFits c) es → (rest : List ℕ) → Says es (with_entries es blank ++ rest)
 entries_say c few es fits rest =
     let table = with_entries es blank in
     let long : length table ≡ 8320 = length_with_entries es blank ∙ length_blank in

@@ -1,6 +1,6 @@
 -- The mode table as a language: which texts are tables within the limits, and what the bytes of a table say.
 use Rattle.std.specs.Prelude.{◌≡◌, ℕ, ◌<◌, ◌≤◌, true, ◌⊎◌, List, [], ◌∷◌, map, length, drop, codes, Decides, Result, MatchResult}
-use Rattle.std.specs.List.{AllByRecursion as All}
+use Rattle.std.specs.List.{AllByRecursion}
 use Rattle.words.specs.declared.fault.Fault.{Fault}
 use Rattle.words.specs.Words.{Tok, word, number, opens, closes, text_limit}
 use Rattle.words.specs.Spelling.{Spells}
@@ -38,7 +38,7 @@ pub record IsTable (text : List ℕ) (c : Counts) (entries : List Entry) : Type 
   pub spelled : Spells text tokens
   pub lines : Lines tokens (table_forms c entries)
   pub counts : CountsFit c.modes c.commands c.flags
-  pub fits : All (EntryFits c) entries
+  pub fits : AllByRecursion (EntryFits c) entries
 
 -- the entry is in the list
 abbrev pub Listed : Entry → List Entry → Type 0

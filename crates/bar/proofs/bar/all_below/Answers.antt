@@ -3,7 +3,7 @@ use Rattle.std.proofs.Common.{ℕ, ◌<◌, List, take, refl, subst, arith}
 use mathlib.Core.Bool.{false≢true}
 use Rattle.std.proofs.ByRecursion.{All-more, All-get_or}
 use Rattle.std.proofs.lemmas.List.{take_all}
-use Rattle.std.specs.List.{AllByRecursion as All}
+use Rattle.std.specs.List.{AllByRecursion}
 use Rattle.bar.proofs.bar.all_below.Goals as goal
 
 pub loop-a-preserved : goal.loop-a-preserved
@@ -19,5 +19,5 @@ returns-then-a-count c = record {
 
 pub returns : goal.returns
 returns c = record {
-  exactly = (λ _. subst (All (λ a. a < c.args.count)) (take_all _ _ c.loop-a-test.false) c.loop-a.invariant, λ _. refl);
+  exactly = (λ _. subst (AllByRecursion (λ a. a < c.args.count)) (take_all _ _ c.loop-a-test.false) c.loop-a.invariant, λ _. refl);
 }

@@ -4,7 +4,7 @@ use Rattle.std.proofs.ByRecursion.{All-get_or, All-more}
 use Rattle.std.proofs.lemmas.List.{take_all}
 use Rattle.std.proofs.lemmas.Bool.{false≢true}
 use Rattle.std.proofs.lemmas.Bool.Decides.{not_from_Decides}
-use Rattle.std.specs.List.{AllByRecursion as All}
+use Rattle.std.specs.List.{AllByRecursion}
 use Rattle.fit.specs.Fit.{ClaimThere}
 use Rattle.fit.proofs.checks.all_claims_there.Goals as goal
 
@@ -25,5 +25,5 @@ loop-claim-preserved g c =
 
 pub returns : goal.returns
 returns g c = record {
-  exactly = (λ _. subst (All _) (take_all _ _ c.loop-claim-test.false) c.loop-claim.invariant, λ _. refl);
+  exactly = (λ _. subst (AllByRecursion _) (take_all _ _ c.loop-claim-test.false) c.loop-claim.invariant, λ _. refl);
 }
