@@ -1,5 +1,5 @@
 -- Every setting has its number, every mode is a setting, and what is within the limits is not changed by holding it to them.
-use Rattle.std.proofs.Common.{◌≡◌, ℕ, ◌+◌, ◌*◌, ◌/◌, ◌%◌, ◌<◌, ◌≤◌, min, List, length, sym, ap, ◌∙◌, mul_assoc, mul_comm, add-mul, arith}
+use Rattle.std.proofs.Common.{◌≡◌, ℕ, ◌+◌, ◌*◌, ◌/◌, ◌%◌, ◌≤◌, min, List, length, sym, ap, ◌∙◌, mul_assoc, mul_comm, add-mul, arith}
 use native.Mathlib.Nat.{div-div-eq-div-mul}
 use Rattle.std.proofs.lemmas.Nat.{div-add-mod', div_below, div-mul-add, mod_below, mod-mul-add, mul-add-lt, mul-le}
 use Rattle.graph.specs.Meaning.{mode_limit, command_limit, flag_limit}

@@ -1,11 +1,11 @@
 -- There is one label table for a graph and the rows of a sheet: two of them have the same bytes.
-use Rattle.std.proofs.Common.{◌≡◌, ℕ, ◌+◌, ◌*◌, ◌/◌, ◌%◌, ◌^◌, ◌<◌, ◌≤◌, Bool, true, false, ◌⊎◌, List, length, get_or, take, sym, refl, ap, ◌∙◌, subst, inl, inr, ⊎_elim, arith, length-take}
+use Rattle.std.proofs.Common.{◌≡◌, ℕ, ◌+◌, ◌*◌, ◌/◌, ◌%◌, ◌<◌, ◌≤◌, true, false, ◌⊎◌, List, length, get_or, take, sym, ap, ◌∙◌, subst, ⊎_elim, arith, length-take}
 use Rattle.std.proofs.lemmas.List.{ext_get_or, get_or-take}
-use Rattle.std.proofs.lemmas.Bool.{cases_lt, cases_eq, cases_Bool, true≢false}
+use Rattle.std.proofs.lemmas.Bool.{cases_lt, cases_Bool, true≢false}
 use Rattle.std.proofs.lemmas.Bool.Decides.{same_from_decides}
 use Rattle.sets.specs.Sets.{bit}
-use Rattle.sets.proofs.Bits.{digit, same_digits, same_digit}
-use Rattle.graph.specs.Meaning.{Meaning, Limits}
+use Rattle.sets.proofs.Bits.{same_digits, same_digit}
+use Rattle.graph.specs.Meaning.{Meaning}
 use Rattle.logic.specs.Rows.{is_formula}
 use Rattle.logic.specs.declared.row.Row.{Row}
 use Rattle.logic.specs.declared.row.Row.TheVariants.{Never}

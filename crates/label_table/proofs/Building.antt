@@ -1,9 +1,8 @@
 -- The table grows row by row: rows that are done stay done, since a row is written after the rows of its parts.
-use Rattle.std.proofs.Common.{◌≡◌, ℕ, ◌+◌, ◌*◌, ◌/◌, ◌%◌, ◌<◌, ◌≤◌, true, false, ◌⊎◌, List, length, get_or, sym, refl, ◌∙◌, subst, inl, inr, ⊎_elim, arith}
+use Rattle.std.proofs.Common.{◌≡◌, ℕ, ◌+◌, ◌*◌, ◌/◌, ◌%◌, ◌<◌, ◌≤◌, List, length, get_or, sym, ◌∙◌, subst, inl, inr, ⊎_elim, arith}
 use Rattle.std.proofs.lemmas.Bool.{cases_eq}
 use Rattle.sets.proofs.Bits.{bit_zero}
 use Rattle.graph.specs.Meaning.{Meaning, Limits}
-use Rattle.logic.specs.Truth.{Steps}
 use Rattle.logic.specs.Rows.{PartsBefore, Orderly}
 use Rattle.logic.proofs.Walks.{kept_on, walk_mapped}
 use Rattle.logic.specs.declared.row.Row.{Row}

@@ -1,9 +1,9 @@
 -- One set of a row's block gains modes, and a block is filled set by set.
-use Rattle.std.proofs.Common.{◌≡◌, ℕ, ◌+◌, ◌*◌, ◌/◌, ◌%◌, ◌<◌, ◌≤◌, true, false, ◌&&◌, ◌||◌, eqb, ◌≢◌, ◌⊎◌, List, length, get_or, sym, refl, ap, ◌∙◌, subst, inl, inr, ⊎_elim, arith}
+use Rattle.std.proofs.Common.{◌≡◌, ℕ, ◌+◌, ◌*◌, ◌/◌, ◌%◌, ◌<◌, ◌≤◌, false, ◌&&◌, ◌||◌, eqb, ◌⊎◌, List, length, get_or, sym, refl, ◌∙◌, subst, inl, inr, ⊎_elim, arith}
 use Rattle.std.proofs.lemmas.Bool.{cases_eq, cases_lt, false≢true, or_cases, or_left, or_right, and_parts, and_from, eqb-true, eq-eqb}
-use Rattle.sets.specs.Sets.{bit, with_member, Joined}
+use Rattle.sets.specs.Sets.{with_member, Joined}
 use Rattle.sets.proofs.Bits.{bit_same_byte, bit_other, bit_with_bit, get_or_with_bit}
-use Rattle.label_table.specs.Layout.{table_bytes, pair_bit}
+use Rattle.label_table.specs.Layout.{pair_bit}
 use Rattle.label_table.specs.Entries.{In}
 use Rattle.label_table.specs.Changes.{Only, Clear, Gained, Filled}
 

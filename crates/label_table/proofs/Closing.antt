@@ -1,9 +1,7 @@
 -- A block is closed under walks: one mode after the other is let in between.
-use Rattle.std.proofs.Common.{◌≡◌, ℕ, suc, ◌+◌, ◌<◌, ◌≤◌, ◌⊎◌, List, sym, refl, ◌∙◌, subst, inl, inr, ⊎_elim, add-one, arith}
+use Rattle.std.proofs.Common.{◌≡◌, ℕ, ◌+◌, ◌<◌, ◌≤◌, ◌⊎◌, List, sym, refl, ◌∙◌, subst, inl, inr, ⊎_elim, add-one, arith}
 use Rattle.std.proofs.lemmas.Bool.{cases_eq, cases_lt}
-use Rattle.logic.specs.Truth.{Steps}
-use Rattle.logic.proofs.Walks.{Via, via_steps, steps_via}
-use Rattle.label_table.specs.Layout.{pair_bit}
+use Rattle.logic.proofs.Walks.{via_steps, steps_via}
 use Rattle.label_table.specs.Entries.{In, Step}
 use Rattle.label_table.specs.Changes.{Gained, Passed, Covered, Closed}
 use Rattle.label_table.proofs.Changes.{only_none, only_more}

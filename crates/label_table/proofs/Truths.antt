@@ -1,19 +1,19 @@
 -- A table whose rows all hold what they say is the label table: by recursion over the rows, each bit is the truth.
 use Rattle.std.proofs.Common.{◌≡◌, ℕ, zero, suc, ◌+◌, ◌*◌, ◌/◌, ◌%◌, ◌<◌, ◌≤◌, Bool, true, false, ◌⊎◌, List, length, get_or, Decides, sym, refl, ap, ◌∙◌, subst, inl, inr, ⊎_elim, arith}
-use Rattle.std.proofs.lemmas.Bool.{cases_lt, cases_Bool, cases_eq, false≢true}
+use Rattle.std.proofs.lemmas.Bool.{cases_lt}
 use Rattle.sets.specs.Sets.{bit}
 use Rattle.graph.specs.Meaning.{Meaning, Limits}
 use Rattle.logic.specs.Trees.{Formula, Program, never, flag, negation, both, either, implies, box, diamond, command, sequence, choice, repetition, converse, test}
-use Rattle.logic.specs.Truth.{TrueAt, Leads, Steps}
+use Rattle.logic.specs.Truth.{TrueAt, Leads}
 use Rattle.logic.specs.Rows.{FormulaRow, ProgramRow, is_formula, PartsBefore, Orderly}
 use Rattle.logic.proofs.Rows.{formula_same, program_same}
 use Rattle.logic.proofs.Walks.{walk_mapped}
-use Rattle.logic.proofs.Within.{leads_to_mode, leads_from_mode}
+use Rattle.logic.proofs.Within.{leads_to_mode}
 use Rattle.logic.specs.declared.row.Row.{Row}
 use Rattle.logic.specs.declared.row.Row.TheVariants.{Never, Flag, Not, Both, Either, Implies, Box, Diamond, Command, Sequence, Choice, Repetition, Converse, Test}
 use Rattle.label_table.specs.Layout.{table_bytes, mode_bit, pair_bit}
 use Rattle.label_table.specs.Labels.{FormulaAt, ProgramAt, RowTrue, RowLeads, ModeFact, PairFact, LabelTable}
-use Rattle.label_table.specs.Entries.{In, Step, FormulaSays, OneStep, ProgramSays, Entry}
+use Rattle.label_table.specs.Entries.{In, Step, FormulaSays, ProgramSays}
 use Rattle.label_table.proofs.Building.{Done, SoFar}
 
 module _ (m : Meaning) (l : Limits m) (rows : List Row) (bs : List ℕ) where

@@ -1,5 +1,5 @@
 -- What each row of a label table has to hold, in terms of the rows of its parts.
-use Rattle.std.specs.Prelude.{◌≡◌, ℕ, ◌<◌, true, false, ◌⊎◌, List}
+use Rattle.std.specs.Prelude.{◌≡◌, ℕ, ◌<◌, true, ◌⊎◌, List}
 use Rattle.graph.specs.Meaning.{Meaning, mode_limit}
 use Rattle.logic.specs.Truth.{Steps}
 use Rattle.logic.specs.declared.row.Row.{Row}

@@ -1,6 +1,6 @@
 -- A graph with a latch keeps the limits.
-use Rattle.std.specs.Prelude.{◌≡◌, ℕ, ◌+◌, ◌-◌, ◌*◌, ◌<◌, ◌≤◌, Bool, true, false, cond, ◌&&◌, ◌==◌, nat_lt, refl}
-use Rattle.std.proofs.Common.{sym, ⊎_elim, arith}
+use Rattle.std.specs.Prelude.{◌≡◌, ℕ, ◌+◌, ◌-◌, ◌*◌, ◌<◌, ◌≤◌, Bool, true, false, cond, ◌==◌, nat_lt, refl}
+use Rattle.std.proofs.Common.{⊎_elim, arith}
 use Rattle.std.proofs.lemmas.Bool.{and_parts, ltb-true, leb-true, eqb-true, cases_Bool}
 use Rattle.graph.specs.Meaning.{Meaning, Limits, mode_limit, flag_limit}
 use Rattle.latch.specs.Latched.{below, is_set, latched, has_room, latch_meaning}

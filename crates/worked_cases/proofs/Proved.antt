@@ -1,12 +1,11 @@
 -- Each worked case, by computing.
-use Rattle.std.proofs.Common.{◌≡◌, ℕ, ◌<◌, Bool, true, false, not, eqb, List, Decides, sym, refl, subst, arith}
+use Rattle.std.proofs.Common.{◌≡◌, ℕ, ◌<◌, Bool, true, false, not, List, Decides, sym, refl, subst, arith}
 use Rattle.std.proofs.lemmas.Bool.Decides.{nat_tests}
 use Rattle.graph.specs.Meaning.{Meaning, Limits}
-use Rattle.latch.specs.Latched.{latched}
 use Rattle.logic.specs.Trees.{Formula, Program}
 use Rattle.logic.specs.Truth.{TrueAt, Leads}
 use Rattle.worked_cases.specs.Models.{model_s, model_t}
-use Rattle.worked_cases.specs.Cases.{WorkedCases, two_dials, listed, pair_listed, Pair, TrueExactly, LeadsExactly}
+use Rattle.worked_cases.specs.Cases.{WorkedCases, listed, pair_listed, Pair, TrueExactly, LeadsExactly}
 use Rattle.worked_cases.proofs.Computing.{every_below, decides_every, holds, goes, holds_decides, goes_decides}
 
 -- model S keeps the limits

@@ -1,5 +1,5 @@
 -- The models that the worked cases speak of.
-use Rattle.std.specs.Prelude.{ℕ, Bool, true, false, ◌&&◌, ◌||◌, List, [], ◌∷◌, ◌==◌}
+use Rattle.std.specs.Prelude.{ℕ, Bool, false, ◌&&◌, ◌||◌, List, [], ◌∷◌, ◌==◌}
 use Rattle.graph.specs.Meaning.{Meaning}
 
 -- a pair of a flag and a mode at which it stands

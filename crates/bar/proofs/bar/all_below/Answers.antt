@@ -1,5 +1,5 @@
 -- One more command was looked at, and past the last there is none.
-use Rattle.std.proofs.Common.{ℕ, ◌<◌, List, take, refl, subst, arith}
+use Rattle.std.proofs.Common.{◌<◌, refl, subst, arith}
 use mathlib.Core.Bool.{false≢true}
 use Rattle.std.proofs.ByRecursion.{All-more, All-get_or}
 use Rattle.std.proofs.lemmas.List.{take_all}
