@@ -1,7 +1,7 @@
 -- One turn of the loop over blank lines.
-use Rattle.std.proofs.Common.{◌≡◌, ℕ, zero, suc, ◌-◌, ◌<◌, ◌≤◌, sym, refl, ap, ◌∙◌, subst, arith}
+use Rattle.std.proofs.Common.{◌≡◌, ℕ, zero, suc, ◌-◌, ◌<◌, refl, subst, arith}
 use Rattle.words.specs.Numbers.{Refused}
-use Rattle.words.specs.Words.{Reading, Out, good, bad, bind}
+use Rattle.words.specs.Words.{Reading, good, bad}
 use Rattle.forms.specs.declared.form.LineStart.{LineStart}
 use Rattle.forms.specs.Forms.{taken, begun, past_blank, within_lines, start_eats}
 

@@ -2,8 +2,8 @@
 use Rattle.std.specs.Prelude.{ℕ, zero, suc, ◌<◌, ◌≤◌, List, length, Ok, Err, Result}
 use Rattle.words.specs.declared.fault.Fault.{Fault}
 use Rattle.words.specs.declared.fault.Place.{Place}
-use Rattle.words.specs.Numbers.{Refused, refused}
-use Rattle.words.specs.Words.{Tok, word, number, opens, closes, line_end, text_end, TokenAt, Reading, reading, Out, good, bad, bind, next_token, here}
+use Rattle.words.specs.Numbers.{refused}
+use Rattle.words.specs.Words.{Tok, word, number, opens, closes, line_end, text_end, Reading, reading, Out, good, bad, bind, next_token, here}
 use Rattle.forms.specs.declared.form.Forms.{Forms}
 use Rattle.forms.specs.declared.form.LineStart.{LineStart}
 use Rattle.forms.specs.declared.form.LineStart.TheVariants as line

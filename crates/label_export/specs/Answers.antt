@@ -1,5 +1,5 @@
 -- What labelling rows in bytes over a table of bytes answers, and what each answer says.
-use Rattle.std.specs.Prelude.{◌≡◌, ℕ, ◌<◌, ◌≤◌, Bool, true, false, ◌⊎◌, List, [], length, Some}
+use Rattle.std.specs.Prelude.{◌≡◌, ℕ, ◌≤◌, Bool, true, false, ◌⊎◌, List, [], length, Some}
 use Rattle.graph.specs.Meaning.{Meaning}
 use Rattle.list_graph.specs.Layout.{table_bytes}
 use Rattle.list_graph.specs.Lists.{CountsFit, list_meaning}

@@ -1,12 +1,12 @@
 -- One table, and one answer, for every run over the same meaning.
-use Rattle.std.proofs.Common.{◌≡◌, ℕ, ◌≤◌, List, length, take, Ok, Err, Result, sym, refl, ◌∙◌, ⊎_elim, arith}
+use Rattle.std.proofs.Common.{◌≡◌, ℕ, ◌≤◌, List, length, Ok, Err, Result, sym, refl, ⊎_elim, arith}
 use Rattle.graph.specs.Meaning.{Meaning}
 use Rattle.logic.specs.declared.row.Claim.{Claim}
 use Rattle.logic.specs.declared.row.Row.{Row}
 use Rattle.label_table.proofs.Alike.{one_table}
 use Rattle.labeller.specs.declared.refusal.Refusal.{Refusal}
 use Rattle.labeller.specs.Refusals.{refusal_number}
-use Rattle.labeller.specs.Labelling.{Labelling, Ground, OneTable, SameTable, Alike, answer_number}
+use Rattle.labeller.specs.Labelling.{Labelling, Ground, OneTable, Alike}
 
 module _ (m : Meaning) (few : m.modes ≤ 64) (rows : List Row) (claims : List Claim) where
   -- what was labelled is the one table

@@ -1,5 +1,5 @@
 -- A line that grows part by part.
-use Rattle.std.proofs.Common.{◌≡◌, ℕ, suc, ◌+◌, Bool, true, false, cond, List, [], ◌++◌, sym, refl, ap, ◌∙◌, append_assoc, append-nil, add-one}
+use Rattle.std.proofs.Common.{◌≡◌, ℕ, ◌+◌, Bool, cond, List, [], ◌++◌, sym, refl, ap, ◌∙◌, append_assoc, append-nil, add-one}
 use Rattle.lines.specs.LabelLines.{mode_part, modes_below, pair_part, pairs_of, pairs_below}
 
 -- nothing is behind the line yet

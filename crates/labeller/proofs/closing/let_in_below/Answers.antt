@@ -1,5 +1,5 @@
 -- One mode more is let in, until all are.
-use Rattle.std.proofs.Common.{◌≡◌, ℕ, ◌∙◌, subst, arith}
+use Rattle.std.proofs.Common.{◌≡◌, ℕ, subst, arith}
 use Rattle.label_table.specs.Changes.{Covered}
 use Rattle.label_table.proofs.Closing.{covered_none, covered_more, covered_all}
 use Rattle.labeller.proofs.closing.let_in_below.Goals as goal

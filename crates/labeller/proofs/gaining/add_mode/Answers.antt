@@ -1,5 +1,5 @@
 -- The set gains the one mode.
-use Rattle.std.proofs.Common.{◌≡◌, ℕ, ◌+◌, ◌*◌, List, sym, ap, ◌∙◌, subst, arith}
+use Rattle.std.proofs.Common.{◌≡◌, ℕ, List, sym, ap, ◌∙◌, subst, arith}
 use Rattle.sets.specs.Sets.{with_member}
 use Rattle.label_table.specs.Changes.{Gained}
 use Rattle.label_table.proofs.Changes.{gained_one}

@@ -1,5 +1,5 @@
 -- The table is one with what lies behind it, which stays.
-use Rattle.std.proofs.Common.{◌≡◌, ℕ, ◌+◌, ◌-◌, ◌≤◌, length, get_or, drop, ap, ◌∙◌, arith, length-take}
+use Rattle.std.proofs.Common.{◌≡◌, ℕ, ◌+◌, ◌-◌, length, get_or, ap, ◌∙◌, arith, length-take}
 use Rattle.std.proofs.lemmas.List.{get_or-append_right, get_or-drop}
 use Rattle.label_table.proofs.Behind.{table_behind}
 use Rattle.labeller.proofs.labelling.fill_front.Goals as goal

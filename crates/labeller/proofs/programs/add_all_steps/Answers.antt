@@ -1,5 +1,5 @@
 -- One set more is filled, by the rows of the parts, which stay as they were.
-use Rattle.std.proofs.Common.{◌≡◌, ℕ, ◌+◌, ◌<◌, ◌≤◌, subst, arith}
+use Rattle.std.proofs.Common.{◌≡◌, ℕ, ◌<◌, ◌≤◌, subst, arith}
 use Rattle.label_table.specs.Changes.{Filled}
 use Rattle.label_table.specs.Entries.{OneStep}
 use Rattle.label_table.proofs.Building.{step_kept, step_still}

@@ -1,5 +1,5 @@
 -- One mode more is in between, or row r does not lead there.
-use Rattle.std.proofs.Common.{◌≡◌, ℕ, ◌+◌, List, sym, ◌∙◌, subst, arith}
+use Rattle.std.proofs.Common.{ℕ, ◌+◌, List, sym, ◌∙◌, subst, arith}
 use Rattle.label_table.specs.Changes.{Gained}
 use Rattle.label_table.specs.Entries.{In, Through}
 use Rattle.label_table.proofs.Changes.{clear_not_in, only_bit, upto_none, upto_gained, upto_passed}

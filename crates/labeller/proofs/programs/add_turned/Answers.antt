@@ -1,5 +1,5 @@
 -- One mode more leads to u, or does not.
-use Rattle.std.proofs.Common.{◌≡◌, ℕ, ◌+◌, List, sym, ◌∙◌, subst, arith}
+use Rattle.std.proofs.Common.{ℕ, ◌+◌, List, sym, ◌∙◌, subst, arith}
 use Rattle.label_table.specs.Changes.{Gained}
 use Rattle.label_table.specs.Entries.{In, Turned}
 use Rattle.label_table.proofs.Changes.{clear_not_in, only_bit, below_none, below_found, below_passed}

@@ -1,5 +1,4 @@
 -- The loop over the modes: of those behind it, the ones that lead to u are in the set.
-use Rattle.std.proofs.Common.{◌<◌}
 use Rattle.label_table.specs.Changes.{Gained}
 use Rattle.label_table.specs.Entries.{Turned}
 use Rattle.labeller.proofs.programs.add_turned.Given as goal

@@ -1,10 +1,6 @@
 -- One row more is done, until all are.
-use Rattle.std.proofs.Common.{◌≡◌, ℕ, ◌<◌, length, get_or, sym, refl, subst, arith}
-use Rattle.logic.specs.declared.row.Row.{Row}
-use Rattle.logic.specs.declared.row.Row.TheVariants.{Never}
-use Rattle.label_table.specs.Changes.{Filled}
-use Rattle.label_table.specs.Entries.{Entry}
-use Rattle.label_table.proofs.Building.{SoFar, so_far_none, so_far_more, parts_below}
+use Rattle.std.proofs.Common.{◌≡◌, ℕ, length, subst, arith}
+use Rattle.label_table.proofs.Building.{SoFar, so_far_none, so_far_more}
 use Rattle.label_table.proofs.Truths.{so_far_all}
 use Rattle.labeller.proofs.rows.label_rows.Goals as goal
 

@@ -1,5 +1,5 @@
 -- One mode more is behind the line, or is left out.
-use Rattle.std.proofs.Common.{◌≡◌, ◌+◌, true, false, List, [], ◌++◌, string_bytes, sym, ap, ◌∙◌}
+use Rattle.std.proofs.Common.{◌+◌, true, false, string_bytes, sym, ap, ◌∙◌}
 use Rattle.label_table.specs.Layout.{mode_bit}
 use Rattle.lines.specs.LabelLines.{mode_part, modes_below}
 use Rattle.lines.proofs.Parts.{parts_none, parts_more, parts_passed, modes_more, modes_none}

@@ -1,5 +1,5 @@
 -- One pair more is behind the line, or is left out.
-use Rattle.std.proofs.Common.{◌≡◌, ◌+◌, true, false, string_bytes, sym, ap, ◌∙◌}
+use Rattle.std.proofs.Common.{◌+◌, true, false, string_bytes, sym, ap, ◌∙◌}
 use Rattle.label_table.specs.Layout.{pair_bit}
 use Rattle.lines.specs.LabelLines.{pair_part, pairs_of}
 use Rattle.lines.proofs.Parts.{parts_none, parts_more, parts_passed, pairs_more, pairs_none}

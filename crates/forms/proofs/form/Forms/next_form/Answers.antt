@@ -1,4 +1,4 @@
-use Rattle.std.proofs.Common.{ℕ, suc, ◌-◌, sym, refl, ◌∙◌, arith}
+use Rattle.std.proofs.Common.{suc, ◌-◌, sym, refl, ◌∙◌, arith}
 use Rattle.std.proofs.lemmas.Result.{err_from_is_err_and}
 use Rattle.words.specs.Words.{left}
 use Rattle.forms.specs.Forms.{next_form, form_reading}
