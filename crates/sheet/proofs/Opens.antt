@@ -1,7 +1,7 @@
 -- The definitions of the readers where a bracket may still be opened.
 use Rattle.std.proofs.Common.{◌≡◌, ℕ, zero, suc, ◌-◌, refl, arith}
 use Rattle.words.specs.declared.fault.Place.{Place}
-use Rattle.sheet.specs.Reading.{State, Step, then, close_at, formula_inside, program_inside, formula_row_at, program_row_at}
+use Rattle.sheet.specs.Reading.{State, then, close_at, formula_inside, program_inside, formula_row_at, program_row_at}
 
 less_one : (d : ℕ) → suc d - 1 ≡ d
 less_one d = omega arith

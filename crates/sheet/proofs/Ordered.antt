@@ -1,8 +1,7 @@
 -- The rows of a sheet that was read are in order, and each claim's row stands for its formula.
-use Rattle.std.proofs.Common.{◌≡◌, List, [], ◌∷◌, refl}
-use Rattle.logic.specs.Rows.{FormulaRow, Orderly}
+use Rattle.std.proofs.Common.{List, [], ◌∷◌, refl}
+use Rattle.logic.specs.Rows.{Orderly}
 use Rattle.logic.specs.Trees.{Formula, Program, never, flag, negation, both, either, implies, box, diamond, command, sequence, choice, repetition, converse, test}
-use Rattle.logic.specs.declared.row.Claim.{Claim}
 use Rattle.logic.specs.declared.row.Row.{Row}
 use Rattle.logic.specs.declared.row.Row.TheVariants.{Never, Flag, Not, Both, Either, Implies, Box, Diamond, Command, Sequence, Choice, Repetition, Converse, Test}
 use Rattle.logic.proofs.Orderly.{orderly_none, orderly_push}

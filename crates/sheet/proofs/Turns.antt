@@ -1,9 +1,9 @@
 -- One turn of the loop over claims.
-use Rattle.std.proofs.Common.{◌≡◌, ℕ, zero, suc, ◌-◌, ◌<◌, ◌≤◌, List, Some, None, Option, refl, subst, arith}
+use Rattle.std.proofs.Common.{◌≡◌, ℕ, zero, suc, ◌-◌, ◌<◌, List, Some, None, Option, refl, subst, arith}
 use Rattle.words.specs.Numbers.{Refused}
 use Rattle.logic.specs.declared.row.Claim.{Claim}
 use Rattle.logic.specs.Sheets.{claims_with}
-use Rattle.sheet.specs.Reading.{State, Step, done, failed, claim_at, claim_eats, within_claims}
+use Rattle.sheet.specs.Reading.{State, done, failed, claim_at, claim_eats, within_claims}
 
 less_one : (k : ℕ) → suc k - 1 ≡ k
 less_one k = omega arith

@@ -1,5 +1,5 @@
 -- From the claims of a text to the whole sheet.
-use Rattle.std.proofs.Common.{◌≡◌, ℕ, ◌≤◌, List, [], length, take, Ok, Err, Result, sym, refl, ap, ◌∙◌}
+use Rattle.std.proofs.Common.{◌≡◌, ℕ, ◌≤◌, List, [], length, take, Ok, Err, Result, refl, ap, ◌∙◌}
 use Rattle.std.proofs.lemmas.List.{take_all}
 use Rattle.std.proofs.lemmas.Bool.{le-ltb}
 use Rattle.words.specs.declared.fault.Fault.{Fault}
@@ -7,8 +7,8 @@ use Rattle.words.specs.Words.{Reading, start, text_limit}
 use Rattle.logic.specs.declared.row.Claim.{Claim}
 use Rattle.logic.specs.declared.row.Row.{Row}
 use Rattle.logic.specs.declared.sheet.Sheet.{Sheet}
-use Rattle.logic.specs.Sheets.{Empty, sheet_claims, sheet_rows}
-use Rattle.sheet.specs.Reading.{State, Step, Answer, begun, claims_from, claims_read, lines_read, sheet_answer, sheet_over}
+use Rattle.logic.specs.Sheets.{sheet_claims, sheet_rows}
+use Rattle.sheet.specs.Reading.{Step, begun, claims_from, claims_read, lines_read, sheet_answer, sheet_over}
 
 -- an empty sheet and a text before its first byte
 pub begun_from : (claims : List Claim) (rows : List Row) (p : Reading) (text : List ℕ) → claims ≡ [] → rows ≡ [] → p ≡ start text 2 → claims_from claims (record { at = p; rows = rows }) ≡ claims_from [] (begun text)

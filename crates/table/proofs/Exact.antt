@@ -1,11 +1,9 @@
 -- A table is accepted exactly where its text is one, and its bytes say what it says.
-use Rattle.std.proofs.Common.{◌≡◌, ℕ, zero, suc, ◌<◌, ◌≤◌, Bool, true, false, cond, ltb, List, [], ◌∷◌, ◌++◌, map, length, drop, Some, None, Ok, Err, Result, sym, refl, ap, ◌∙◌, subst, ⊎_elim, arith}
+use Rattle.std.proofs.Common.{◌≡◌, ℕ, suc, ◌<◌, ◌≤◌, Bool, true, false, cond, ltb, List, ◌++◌, length, drop, Some, None, Ok, Err, Result, sym, refl, ap, ◌∙◌, subst, arith}
 use Rattle.std.proofs.lemmas.List.{length-map}
-use Rattle.std.proofs.lemmas.Bool.{ltb-false, lt-ltb}
+use Rattle.std.proofs.lemmas.Bool.{ltb-false}
 use Rattle.words.specs.declared.fault.Fault.{Fault}
-use Rattle.words.specs.Numbers.{Refused, refused}
-use Rattle.words.specs.Words.{Tok, Reading, Out, good, bad, bind, start}
-use Rattle.words.specs.Spelling.{Spells}
+use Rattle.words.specs.Words.{Tok, Reading, Out, good, bad, start}
 use Rattle.words.proofs.Tokens.{Reads, reads_from_spells, spells_from_reads, length_reads}
 use Rattle.forms.specs.Lines.{Lines}
 use Rattle.forms.proofs.Spelled.{length_lines}
@@ -14,7 +12,7 @@ use Rattle.std.specs.List.{AllByRecursion}
 use Rattle.table.specs.declared.contents.Counts.{Counts}
 use Rattle.table.specs.declared.contents.Entry.{Entry}
 use Rattle.table.specs.declared.contents.Keyword.TheVariants as key
-use Rattle.table.specs.Table.{Contents, accepts, answered, answer_by, blank, contents_at, counts_of, entries_from, head_at, heads_at, over, table_answer, table_over, before_text, with_entries, within_entries}
+use Rattle.table.specs.Table.{Contents, accepts, answered, answer_by, blank, contents_at, counts_of, entries_from, head_at, heads_at, over, table_answer, table_over, before_text, with_entries}
 use Rattle.table.specs.Grammar.{EntryFits, IsTable, ReadsExactly, TableRead, entry_tokens, table_forms}
 use Rattle.table.proofs.LinesRead.{bind_parts, good_value, good_reading, head_from_reads, reads_from_head, entries_from_reads, entries_read}
 use Rattle.table.proofs.Says.{entries_say}

@@ -9,8 +9,7 @@ use Rattle.words.specs.Words.{Tok, word, number, opens, closes, Reading, Out, go
 use Rattle.words.proofs.Tokens.{Reads}
 use Rattle.forms.specs.declared.form.Next.{Next}
 use Rattle.forms.specs.declared.form.Next.TheVariants.{Form, End}
-use Rattle.forms.specs.declared.form.Numeral.{Numeral}
-use Rattle.forms.specs.Forms.{WordAt, closed, ended, named, numbered, next_form, taken, misplaced}
+use Rattle.forms.specs.Forms.{closed, ended, named, numbered, next_form, taken}
 use Rattle.forms.specs.Lines.{Lines}
 use Rattle.forms.proofs.Spelled.{After, closed_from_reads, reads_from_closed, numbered_from_reads, reads_from_numbered, named_from_reads, reads_from_named, ended_from_reads, reads_from_ended, form_from_reads, reads_from_form, end_from_reads, reads_from_end}
 use Rattle.std.specs.List.{AllByRecursion}

@@ -1,10 +1,10 @@
 -- The bytes of a table say exactly the entries that were set in them.
-use Rattle.std.proofs.Common.{◌≡◌, ℕ, ◌+◌, ◌*◌, ◌/◌, ◌%◌, ◌^◌, ◌<◌, ◌≤◌, Bool, true, false, ◌&&◌, ◌||◌, eqb, ◌⊎◌, List, [], ◌∷◌, ◌++◌, length, get_or, drop, replicate, Decides, sym, refl, ap, ◌∙◌, subst, inl, inr, ⊎_elim, arith}
+use Rattle.std.proofs.Common.{◌≡◌, ℕ, ◌/◌, ◌%◌, ◌^◌, ◌<◌, ◌≤◌, Bool, true, false, ◌&&◌, eqb, ◌⊎◌, List, [], ◌∷◌, ◌++◌, length, Decides, sym, refl, ap, ◌∙◌, inl, inr, ⊎_elim, arith}
 use mathlib.Core.Bool.{false≢true}
 use lib.ListN.{length-replicate}
 use Rattle.std.proofs.lemmas.List.{get_or_append_left, get_or-replicate}
 use Rattle.std.proofs.lemmas.Bool.{or_cases, or_left, or_right, and_parts, and_from, eqb-true, eq-eqb}
-use Rattle.list_graph.specs.Layout.{bit, flag_bit, arc_bit, flag_byte, arc_byte, marked, joined}
+use Rattle.list_graph.specs.Layout.{bit, flag_bit, arc_bit, flag_byte, arc_byte}
 use Rattle.list_graph.proofs.Bits.{bit_zero, flag_bit_marked, arc_bit_marked, flag_bit_joined, arc_bit_joined, length_marked, length_joined}
 use Rattle.list_graph.specs.Lists.{CountsFit}
 use Rattle.std.specs.List.{AllByRecursion}

@@ -1,10 +1,10 @@
 -- One turn of the loop over entries.
-use Rattle.std.proofs.Common.{◌≡◌, ℕ, zero, suc, ◌-◌, ◌<◌, ◌≤◌, List, [], ◌∷◌, Some, None, Option, sym, refl, ap, ◌∙◌, subst, arith}
+use Rattle.std.proofs.Common.{◌≡◌, ℕ, zero, suc, ◌-◌, ◌<◌, List, ◌∷◌, Some, None, Option, refl, subst, arith}
 use Rattle.words.specs.Numbers.{Refused}
 use Rattle.words.specs.Words.{Reading, Out, good, bad, bind}
 use Rattle.table.specs.declared.contents.Counts.{Counts}
 use Rattle.table.specs.declared.contents.Entry.{Entry}
-use Rattle.table.specs.Table.{entry_at, and_more, within_entries, laid, with_entry, with_entries, entry_eats}
+use Rattle.table.specs.Table.{entry_at, within_entries, laid, with_entry, entry_eats}
 
 less_one : (k : ℕ) → suc k - 1 ≡ k
 less_one k = omega arith

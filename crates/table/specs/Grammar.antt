@@ -1,5 +1,5 @@
 -- The mode table as a language: which texts are tables within the limits, and what the bytes of a table say.
-use Rattle.std.specs.Prelude.{◌≡◌, ℕ, ◌<◌, ◌≤◌, true, ◌⊎◌, List, [], ◌∷◌, map, length, drop, codes, Decides, Result, MatchResult}
+use Rattle.std.specs.Prelude.{◌≡◌, ℕ, ◌<◌, ◌≤◌, ◌⊎◌, List, [], ◌∷◌, map, length, codes, Decides, Result, MatchResult}
 use Rattle.std.specs.List.{AllByRecursion}
 use Rattle.words.specs.declared.fault.Fault.{Fault}
 use Rattle.words.specs.Words.{Tok, word, number, opens, closes, text_limit}

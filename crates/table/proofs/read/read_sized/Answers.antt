@@ -1,5 +1,5 @@
 -- The sizes choose among the cases of the definition.
-use Rattle.std.proofs.Common.{◌≡◌, sym, ap, ◌∙◌}
+use Rattle.std.proofs.Common.{sym, ap, ◌∙◌}
 use Rattle.std.proofs.lemmas.Result.{err_from_is_err_and}
 use Rattle.table.specs.Table.{answer_by, over}
 use Rattle.table.proofs.Whole.{answer_over, answered_over}

@@ -1,11 +1,11 @@
-use Rattle.std.proofs.Common.{◌≡◌, ℕ, suc, ◌-◌, List, sym, refl, ap, ◌∙◌, arith}
+use Rattle.std.proofs.Common.{◌≡◌, suc, ◌-◌, List, sym, refl, ap, ◌∙◌, arith}
 use Rattle.std.proofs.lemmas.Result.{err_from_is_err_and}
 use Rattle.words.specs.Words.{left}
 use Rattle.logic.specs.declared.row.Claim.{Claim}
 use Rattle.logic.specs.declared.row.Row.{Row}
 use Rattle.logic.specs.Sheets.{claims_with, sheet_claims, sheet_rows}
 use Rattle.forms.specs.Forms.{form_reading}
-use Rattle.sheet.specs.Reading.{Step, done, claims_from, state, within_claims}
+use Rattle.sheet.specs.Reading.{done, claims_from, state, within_claims}
 use Rattle.sheet.proofs.Turns.{claims_more, claims_all, claims_failed, claim_ate}
 use Rattle.sheet.proofs.reader.Reader.claims.Goals as goal
 
