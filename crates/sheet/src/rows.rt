@@ -57,7 +57,7 @@ impl<'a> Reader<'a> {
     }
 
     // A formula, with the rows of its parts before its own; so many brackets may still be opened.
-    #[cycle(formula_formula_row_program_program_row)]
+    #[cycle(trees)]
     pub(crate) fn formula(&mut self, sheet: &mut Sheet, depth: u8) -> Result<RowNumber, Fault>
         ensures reads { stepped result (state self.new sheet.new) ≡ formula_at depth (state self.old sheet.old) }
         ensures claims { sheet_claims sheet.new ≡ sheet_claims sheet.old }
@@ -72,7 +72,7 @@ impl<'a> Reader<'a> {
     }
 
     // The row of a formula by its letter, after its bracket.
-    #[cycle(formula_formula_row_program_program_row)]
+    #[cycle(trees)]
     fn formula_row(&mut self, sheet: &mut Sheet, depth: u8) -> Result<Row, Fault>
         ensures reads { stepped result (state self.new sheet.new) ≡ formula_row_at depth (state self.old sheet.old) }
         ensures claims { sheet_claims sheet.new ≡ sheet_claims sheet.old }
@@ -122,7 +122,7 @@ impl<'a> Reader<'a> {
     }
 
     // A program, with the rows of its parts before its own; so many brackets may still be opened.
-    #[cycle(formula_formula_row_program_program_row)]
+    #[cycle(trees)]
     pub(crate) fn program(&mut self, sheet: &mut Sheet, depth: u8) -> Result<RowNumber, Fault>
         ensures reads { stepped result (state self.new sheet.new) ≡ program_at depth (state self.old sheet.old) }
         ensures claims { sheet_claims sheet.new ≡ sheet_claims sheet.old }
@@ -137,7 +137,7 @@ impl<'a> Reader<'a> {
     }
 
     // The row of a program by its letter, after its bracket.
-    #[cycle(formula_formula_row_program_program_row)]
+    #[cycle(trees)]
     fn program_row(&mut self, sheet: &mut Sheet, depth: u8) -> Result<Row, Fault>
         ensures reads { stepped result (state self.new sheet.new) ≡ program_row_at depth (state self.old sheet.old) }
         ensures claims { sheet_claims sheet.new ≡ sheet_claims sheet.old }

@@ -1,7 +1,7 @@
 -- A bracket was opened, so one fewer may be opened inside it.
 use Rattle.std.proofs.Common.{rules}
 use Rattle.sheet.proofs.Opens.{formula_opens, program_opens}
-use Rattle.sheet.proofs.reader.Reader.+formula_formula_row_program_program_row.Goals as goal
+use Rattle.sheet.proofs.reader.Reader.+trees.Goals as goal
 
 pub formula-returns-in_err-row : goal.formula-returns-in_err-row
 formula-returns-in_err-row t c = search (rules, formula_opens)

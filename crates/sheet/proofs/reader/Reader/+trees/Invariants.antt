@@ -1,6 +1,6 @@
 -- The brackets that may still be opened fall with each bracket.
 use Rattle.std.proofs.Common.{◌+◌, ◌*◌}
-use Rattle.sheet.proofs.reader.Reader.+formula_formula_row_program_program_row.Given as goal
+use Rattle.sheet.proofs.reader.Reader.+trees.Given as goal
 
 abbrev pub decreases-formula : goal.decreases-formula
 decreases-formula l = 2 * l.depth
