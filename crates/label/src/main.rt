@@ -10,6 +10,7 @@ use list_graph::ListGraph;
 use logic::{Row, Sheet};
 use sheet::read_sheet;
 use std::fs;
+use std::process::ExitCode;
 use table::{Counts, read_table};
 
 // The mode table, in the folder that the program is run in.
@@ -18,55 +19,55 @@ const MODES_FILE: &str = "modes.txt";
 // The claim sheet, in the same folder.
 const CLAIMS_FILE: &str = "claims.txt";
 
-fn main(rt: HostRuntime) -> anyhow::Result<()> {
-    let text = read(rt, MODES_FILE)?;
+fn main(rt: HostRuntime) -> anyhow::Result<ExitCode> {
+    let Some(text) = read(rt, MODES_FILE)? else {
+        return Ok(ExitCode::FAILURE);
+    };
     let mut memory = vec![in rt.alloc(); 0u8; list_graph::TABLE_BYTES]?;
     match read_table(&text, &mut memory) {
         Ok(counts) => label_kit(rt, &memory, counts),
         Err(fault) => {
             rt.println(refusal_line(rt.alloc(), "modes", fault)?)?;
-            Ok(())
+            Ok(ExitCode::SUCCESS)
         }
     }
 }
 
 // The bytes of a file. Where it cannot be read, standard error says which file, and why.
-fn read(rt: HostRuntime, file: &str) -> anyhow::Result<Vec<u8>> {
+fn read(rt: HostRuntime, file: &str) -> anyhow::Result<Option<Vec<u8>>> {
     match fs::read(&rt, file) {
-        Ok(text) => Ok(text),
+        Ok(text) => Ok(Some(text)),
         Err(e) => {
             eprintln!(rt; "label: {file} cannot be read: {e}")?;
-            Err(e.into())
+            Ok(None)
         }
     }
 }
 
 // Reads the claims of a kit whose table is read, and labels their rows.
-fn label_kit(rt: HostRuntime, memory: &[u8], counts: Counts) -> anyhow::Result<()> {
+fn label_kit(rt: HostRuntime, memory: &[u8], counts: Counts) -> anyhow::Result<ExitCode> {
     let Ok(graph) = ListGraph::new(memory, counts.modes, counts.commands, counts.flags) else {
         return Err(anyhow!("label: the table's counts make no graph"));
     };
-    let text = read(rt, CLAIMS_FILE)?;
+    let Some(text) = read(rt, CLAIMS_FILE)? else {
+        return Ok(ExitCode::FAILURE);
+    };
     let mut sheet = Sheet::new(rt.alloc())?;
     match read_sheet(&text, &mut sheet) {
-        Ok(()) => label_sheet(rt, &graph, &sheet),
-        Err(fault) => {
-            rt.println(refusal_line(rt.alloc(), "claims", fault)?)?;
-            Ok(())
-        }
+        Ok(()) => label_sheet(rt, &graph, &sheet)?,
+        Err(fault) => rt.println(refusal_line(rt.alloc(), "claims", fault)?)?,
     }
+    Ok(ExitCode::SUCCESS)
 }
 
 // Labels the rows of a sheet over any graph, and prints them.
 fn label_sheet<G: Graph>(rt: HostRuntime, graph: &G, sheet: &Sheet) -> anyhow::Result<()> {
     let mut labels = vec![in rt.alloc(); 0u8; TABLE_BYTES]?;
     match label(graph, sheet, &mut labels) {
-        Ok(()) => print_labels(rt, sheet.rows(), &labels, graph.modes()),
-        Err(refusal) => {
-            rt.println(refused_line(rt.alloc(), "label", refusal.number())?)?;
-            Ok(())
-        }
+        Ok(()) => print_labels(rt, sheet.rows(), &labels, graph.modes())?,
+        Err(refusal) => rt.println(refused_line(rt.alloc(), "label", refusal.number())?)?,
     }
+    Ok(())
 }
 
 // One line for each row.

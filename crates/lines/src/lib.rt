@@ -1,19 +1,20 @@
 //! The lines that the programs print, as text.
 #![tactic(auto)]
 
+ghost use Rattle.lines.specs.Lines.{number_line, refusal_line, refused_line};
+ghost use Rattle.std.specs.Prelude.{◌≡◌, IfOk, string_bytes};
+ghost use Rattle.words.specs.Numbers.{refused};
+
+use std::alloc::{AllocError, Global};
+use words::Fault;
+
 mod claims;
 mod labels;
 
 /// The lines of a claim sheet.
 pub use claims::{claim_line, row_line};
 /// The line of a row of a label table.
-ghost use Rattle.lines.specs.Lines.{number_line, refusal_line, refused_line};
-ghost use Rattle.std.specs.Prelude.{◌≡◌, IfOk, string_bytes};
-ghost use Rattle.words.specs.Numbers.{refused};
-
 pub use labels::label_line;
-use std::alloc::{AllocError, Global};
-use words::Fault;
 
 /// A word and a number, as `(stuck 7)`. Where there is no memory for it, the error says so.
 pub fn number_line(heap: Global, word: &str, n: u8) -> Result<String, AllocError>

@@ -8,6 +8,7 @@ use list_graph::{ListGraph, TABLE_BYTES};
 use logic::Sheet;
 use sheet::read_sheet;
 use std::io::ErrorKind;
+use std::process::ExitCode;
 use std::{fs, io};
 use table::read_table;
 
@@ -17,7 +18,7 @@ const TABLE_FILE: &str = "modes.txt";
 // The claim sheet, which may be missing.
 const SHEET_FILE: &str = "claims.txt";
 
-fn main(rt: HostRuntime) -> anyhow::Result<()> {
+fn main(rt: HostRuntime) -> anyhow::Result<ExitCode> {
     let text = match fs::read(&rt, TABLE_FILE) {
         Ok(text) => text,
         Err(e) => return cannot_read(rt, TABLE_FILE, e),
@@ -34,15 +35,15 @@ fn main(rt: HostRuntime) -> anyhow::Result<()> {
         }
         Err(fault) => {
             rt.println(refusal_line(rt.alloc(), "modes", fault)?)?;
-            Ok(())
+            Ok(ExitCode::SUCCESS)
         }
     }
 }
 
-// Says on standard error which file cannot be read, and why.
-fn cannot_read(rt: HostRuntime, file: &str, e: io::Error) -> anyhow::Result<()> {
+// Says on standard error which file cannot be read, and why, and ends with the status of a failure.
+fn cannot_read(rt: HostRuntime, file: &str, e: io::Error) -> anyhow::Result<ExitCode> {
     eprintln!(rt; "survey: {file} cannot be read: {e}")?;
-    Err(e.into())
+    Ok(ExitCode::FAILURE)
 }
 
 // The counts of any graph, and its stuck modes, rising.
@@ -60,24 +61,22 @@ fn print_survey<G: Graph>(rt: HostRuntime, graph: &G) -> anyhow::Result<()> {
 }
 
 // The claims of the sheet, where there is one.
-fn survey_claims(rt: HostRuntime) -> anyhow::Result<()> {
+fn survey_claims(rt: HostRuntime) -> anyhow::Result<ExitCode> {
     let text = match fs::read(&rt, SHEET_FILE) {
         Ok(text) => text,
         Err(e) => {
             if e.kind() == ErrorKind::NotFound {
-                return Ok(());
+                return Ok(ExitCode::SUCCESS);
             }
             return cannot_read(rt, SHEET_FILE, e);
         }
     };
     let mut sheet = Sheet::new(rt.alloc())?;
     match read_sheet(&text, &mut sheet) {
-        Ok(()) => print_sheet(rt, &sheet),
-        Err(fault) => {
-            rt.println(refusal_line(rt.alloc(), "claims", fault)?)?;
-            Ok(())
-        }
+        Ok(()) => print_sheet(rt, &sheet)?,
+        Err(fault) => rt.println(refusal_line(rt.alloc(), "claims", fault)?)?,
     }
+    Ok(ExitCode::SUCCESS)
 }
 
 // Each claim, and then the rows that were numbered for it.
