@@ -73,7 +73,7 @@ impl<'a> Graph for DialGraph<'a> {
             && some_joins(self.sizes.held(), self.rules, a, u, v)
     }
 
-    // A type with a lifetime cannot keep the body that the interface has for this question, so it is said again.
+    // The body that the interface has for this question, said again.
     fn next_target(&self, a: Command, u: Mode, start: Mode) -> Option<Mode> {
         let n = self.modes();
         for v in start..n {

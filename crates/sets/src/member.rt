@@ -1,4 +1,4 @@
-//! One mode of a set: which bit of which byte it is. Nothing else knows that.
+//! One mode of a set: which bit of which byte it is.
 
 ghost use Rattle.std.specs.Prelude.{◌≡◌, ◌+◌, ◌/◌, ◌<◌};
 ghost use Rattle.sets.specs.Sets.{bit, member, with_bit, with_member};
