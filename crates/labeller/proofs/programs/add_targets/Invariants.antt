@@ -4,7 +4,7 @@ use Rattle.label_table.specs.Changes.{Gained}
 use Rattle.labeller.proofs.programs.add_targets.Given as goal
 
 abbrev pub invariant-loop-v : goal.invariant-loop-v
-invariant-loop-v g l = Gained l.q l.u (λ v. (v < l.start) × ((g.G.Graph.meaning l.graph).joins l.a l.u v ≡ true)) l.initial.table l.table
+invariant-loop-v g l = Gained l.set.row l.set.mode (λ v. (v < l.start) × ((g.G.Graph.meaning l.graph).joins l.a l.set.mode v ≡ true)) l.initial.table l.table
 
 abbrev pub decreases-loop-v : goal.decreases-loop-v
 decreases-loop-v g l = 256 - l.start

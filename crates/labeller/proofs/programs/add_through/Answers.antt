@@ -2,20 +2,17 @@
 use Rattle.std.proofs.Common.{ℕ, ◌+◌, List, sym, ◌∙◌, subst, arith}
 use Rattle.label_table.specs.Changes.{Gained}
 use Rattle.label_table.specs.Entries.{In, Through}
-use Rattle.label_table.proofs.Changes.{clear_not_in, only_bit, upto_none, upto_gained, upto_passed}
+use Rattle.label_table.proofs.Changes.{clear_not_in, only_bit, upto_gained, upto_passed}
 use Rattle.labeller.proofs.programs.add_through.Goals as goal
 use Rattle.labeller.proofs.programs.add_through.Goals.{then-is_joined, else-is_joined}
-
-pub loop-w-init : goal.loop-w-init
-loop-w-init c = upto_none c.args.q c.args.u (λ w v. In c.args.table.now c.args.r c.args.u w × In c.args.table.now c.args.s w v) c.args.table.now
 
 pub loop-w-preserved : goal.loop-w-preserved
 loop-w-preserved c =
     let old = c.args.table.now in
     let t = c.loop-w.table in
     let w = c.loop-w.w in
-    let q = c.args.q in
-    let u = c.args.u in
+    let q = c.args.set.row in
+    let u = c.args.set.mode in
     let r = c.args.r in
     let s = c.args.s in
     let D : ℕ → ℕ → Type 0 = λ w v. In old r u w × In old s w v in
@@ -27,7 +24,7 @@ loop-w-preserved c =
           (upto_gained q u D w (In t s w) old t _
           (λ v h i. (sym first ∙ sym c.is_joined.ensures.answer ∙ a.if-is_joined.true, sym (only_bit q s w v old t (λ e. omega arith) (omega arith) h c.loop-w.invariant.only) ∙ i))
           (λ v h d. only_bit q s w v old t (λ e. omega arith) (omega arith) h c.loop-w.invariant.only ∙ d.1)
-          c.loop-w.invariant a.add_set.ensures.gained)
+          c.loop-w.invariant a.add_set.ensures)
       | else-is_joined a ↦
           subst P (sym a.table-is)
           (upto_passed q u D w old t

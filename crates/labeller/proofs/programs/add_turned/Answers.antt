@@ -2,20 +2,17 @@
 use Rattle.std.proofs.Common.{ℕ, ◌+◌, List, sym, ◌∙◌, subst, arith}
 use Rattle.label_table.specs.Changes.{Gained}
 use Rattle.label_table.specs.Entries.{In, Turned}
-use Rattle.label_table.proofs.Changes.{clear_not_in, only_bit, below_none, below_found, below_passed}
+use Rattle.label_table.proofs.Changes.{clear_not_in, only_bit, below_found, below_passed}
 use Rattle.labeller.proofs.programs.add_turned.Goals as goal
 use Rattle.labeller.proofs.programs.add_turned.Goals.{then-is_joined, else-is_joined}
-
-pub loop-v-init : goal.loop-v-init
-loop-v-init c = below_none c.args.q c.args.u (λ v. In c.args.table.now c.args.r v c.args.u) c.args.table.now
 
 pub loop-v-preserved : goal.loop-v-preserved
 loop-v-preserved c =
     let old = c.args.table.now in
     let t = c.loop-v.table in
     let v = c.loop-v.v in
-    let q = c.args.q in
-    let u = c.args.u in
+    let q = c.args.set.row in
+    let u = c.args.set.mode in
     let r = c.args.r in
     let S : ℕ → Type 0 = λ v. In old r v u in
     let P : List ℕ → Type 0 = λ new. Gained q u (Turned (v + 1) old r u) old new in
@@ -25,7 +22,7 @@ loop-v-preserved c =
           subst P (sym a.table-is)
           (below_found q u S v v old t _ (omega arith) (λ x h l. absurd (omega arith))
           (sym same ∙ sym c.is_joined.ensures.answer ∙ a.if-is_joined.true)
-          c.loop-v.invariant a.add_mode.ensures.gained)
+          c.loop-v.invariant a.add_mode.ensures)
       | else-is_joined a ↦
           subst P (sym a.table-is)
           (below_passed q u S v old t
