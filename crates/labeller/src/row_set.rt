@@ -31,12 +31,12 @@ impl RowSet {
     }
 
     // The bytes of the set.
-    fn bytes(self, table: &Table) -> &[u8]
+    fn bytes(self, table: &Table) -> &[u8; SET_BYTES]
         ensures size { length result.now ≡ 8 }
         ensures answer { (i : ℕ) → i < 8 → slice_index result.now i ≡ slice_index table.now (512 * self.row + 8 * self.mode + i) }
     {
         let start = self.start() as usize;
-        &table[start..start + SET_BYTES]
+        table[start..].first_chunk().unwrap()
     }
 
     // Whether some mode is in both sets: a byte of the one has a bit in common with its other.
@@ -72,8 +72,7 @@ impl RowSet {
         ensures { Gained self.row self.mode (In table.old other.row other.mode) table.old table.new }
     {
         let start = self.start() as usize;
-        let mut added = [0; SET_BYTES];
-        added.copy_from_slice(other.bytes(table));
+        let added = *other.bytes(table);
         for (i, byte) in added.iter().enumerate() {
             table[start + i] |= *byte;
         }

@@ -1,5 +1,5 @@
 -- All eight bytes joined are the set joined.
-use Rattle.std.proofs.Common.{◌≡◌, ℕ, ◌+◌, ◌*◌, List, get_or, ap, ◌∙◌, subst, arith}
+use Rattle.std.proofs.Common.{◌≡◌, ℕ, ◌+◌, ◌*◌, subst, arith}
 use Rattle.sets.specs.Sets.{BytesJoined, Joined}
 use Rattle.sets.proofs.Joins.{joined_all}
 use Rattle.label_table.proofs.Changes.{gained_set}
@@ -13,6 +13,6 @@ returns c =
     let done : c.loop-i.i ≡ 8 = omega arith in
     gained_set c.args.self.row c.args.self.mode c.args.other.row c.args.other.mode old new (omega arith)
     (subst (λ (to : ℕ). Joined to from old new) c.start-start.ensures
-    (joined_all c.start-start.result from c.copy_from_slice.new.self old new
-    (λ i h. ap (λ (xs : List ℕ). get_or xs i 0) c.copy_from_slice.ensures.after ∙ c.bytes.ensures.answer i h)
-    (subst (λ (k : ℕ). BytesJoined k c.start-start.result c.copy_from_slice.new.self old new) done c.loop-i.invariant)))
+    (joined_all c.start-start.result from c.bytes.result.now old new
+    c.bytes.ensures.answer
+    (subst (λ (k : ℕ). BytesJoined k c.start-start.result c.bytes.result.now old new) done c.loop-i.invariant)))
