@@ -1,6 +1,6 @@
 //! Program rows: the pairs that each program joins, by the rows of its parts.
 
-ghost use Rattle.std.specs.Prelude.{◌≡◌, ℕ, ◌<◌, ◌≤◌, true, false, ◌⊎◌};
+ghost use Rattle.std.specs.Prelude.{◌≡◌, ℕ, ◌<◌, true, false, ◌⊎◌};
 ghost use Rattle.label_table.specs.Changes.{Clear, Filled, Gained, TidyBefore};
 ghost use Rattle.label_table.specs.Entries.{Entry, In, OneStep, PartsBelow, Through, Turned};
 ghost use Rattle.logic.specs.Rows.{is_formula};
@@ -12,6 +12,8 @@ use crate::row_set::{RowSet, Table};
 use graph::{Command, Graph, Mode};
 use label_table::is_joined;
 use logic::{Row, RowNumber};
+
+// The functions of this file ask for graph and table apart: in a struct the table would be a `&mut`, and each contract would have to say that it is the same one.
 
 // Adds the modes to which command a leads from the mode of the set.
 fn add_targets<G: Graph>(graph: &G, table: &mut Table, set: RowSet, a: Command)
@@ -25,12 +27,12 @@ fn add_targets<G: Graph>(graph: &G, table: &mut Table, set: RowSet, a: Command)
 }
 
 // Adds the modes to which row s leads from where row r leads: a join of sets for each mode in between.
-fn add_through(table: &mut Table, set: RowSet, r: RowNumber, s: RowNumber, n: u8)
-    requires few_modes { n ≤ 64 }
+// That r and s stand before the row stays a clause: a type that said it would be made in one arm of `add_steps` and taken apart here.
+fn add_through<G: Graph>(graph: &G, table: &mut Table, set: RowSet, r: RowNumber, s: RowNumber)
     requires parts { (r < set.row) × (s < set.row) }
-    ensures gained { Gained set.row set.mode (Through n table.old r s set.mode) table.old table.new }
+    ensures gained { Gained set.row set.mode (Through (G.meaning graph.now).modes table.old r s set.mode) table.old table.new }
 {
-    for w in 0..n {
+    for w in 0..graph.modes() {
         if is_joined(table, r, set.mode, w) {
             set.add_set(table, RowSet { row: s, mode: w });
         }
@@ -38,12 +40,11 @@ fn add_through(table: &mut Table, set: RowSet, r: RowNumber, s: RowNumber, n: u8
 }
 
 // Adds the modes from which row r leads to the mode of the set.
-fn add_turned(table: &mut Table, set: RowSet, r: RowNumber, n: u8)
-    requires few_modes { n ≤ 64 }
+fn add_turned<G: Graph>(graph: &G, table: &mut Table, set: RowSet, r: RowNumber)
     requires parts { r < set.row }
-    ensures gained { Gained set.row set.mode (Turned n table.old r set.mode) table.old table.new }
+    ensures gained { Gained set.row set.mode (Turned (G.meaning graph.now).modes table.old r set.mode) table.old table.new }
 {
-    for v in 0..n {
+    for v in 0..graph.modes() {
         if is_joined(table, r, v, set.mode) {
             set.add_mode(table, v);
         }
@@ -61,10 +62,10 @@ fn add_steps<G: Graph>(graph: &G, table: &mut Table, placed: PlacedRow, u: Mode)
     };
     match placed.row {
         Row::Command(a) => add_targets(graph, table, set, a),
-        Row::Sequence(r, s) => add_through(table, set, r, s, graph.modes()),
+        Row::Sequence(r, s) => add_through(graph, table, set, r, s),
         Row::Choice(r, s) => add_either(table, set, r, s),
         Row::Repetition(r) => add_step_or_none(table, set, r),
-        Row::Converse(r) => add_turned(table, set, r, graph.modes()),
+        Row::Converse(r) => add_turned(graph, table, set, r),
         Row::Test(x) => add_if_true(table, set, x),
         _ => {}
     }
