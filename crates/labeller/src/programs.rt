@@ -13,7 +13,7 @@ use graph::{Command, Graph, Mode};
 use label_table::is_joined;
 use logic::{Row, RowNumber};
 
-// The functions of this file ask for graph and table apart: in a struct the table would be a `&mut`, and each contract would have to say that it is the same one.
+// Graph and table stay two parameters: a struct would hold a `&mut`, and each contract would have to say that it is the same one.
 
 // Adds the modes to which command a leads from the mode of the set.
 fn add_targets<G: Graph>(graph: &G, table: &mut Table, set: RowSet, a: Command)
@@ -27,7 +27,7 @@ fn add_targets<G: Graph>(graph: &G, table: &mut Table, set: RowSet, a: Command)
 }
 
 // Adds the modes to which row s leads from where row r leads: a join of sets for each mode in between.
-// That r and s stand before the row stays a clause: a type that said it would be made in one arm of `add_steps` and taken apart here.
+// That r and s stand before the row stays a clause: a type for it would be made in one arm of `add_steps` and undone here.
 fn add_through<G: Graph>(graph: &G, table: &mut Table, set: RowSet, r: RowNumber, s: RowNumber)
     requires parts { (r < set.row) × (s < set.row) }
     ensures gained { Gained set.row set.mode (Through (G.meaning graph.now).modes table.old r s set.mode) table.old table.new }

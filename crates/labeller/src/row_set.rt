@@ -60,7 +60,7 @@ impl RowSet {
     }
 
     // Puts mode v into the set.
-    // That a mode is below 64 stays a clause: each mode comes from a range of bytes and goes into a byte, and would be wrapped and unwrapped at each use.
+    // That v is below 64 stays a clause: modes come from ranges of bytes, and a type of their own would be undone at each use.
     pub(crate) fn add_mode(self, table: &mut Table, v: Mode)
         requires { v < 64 }
         ensures { Gained self.row self.mode (λ x. x ≡ v) table.old table.new }

@@ -30,7 +30,7 @@ pub(crate) fn label_rows<G: Graph>(graph: &G, rows: &[Row], table: &mut Table)
 }
 
 // Fills the block of a row, which is clear, after the blocks of its parts.
-// That the block is clear stays a clause: it holds of a table between two writes, so a type that said it would be made and given up at each call.
+// That the block is clear stays a clause: it holds between two writes, so a type for it would be undone at each call.
 fn label_row<G: Graph>(graph: &G, table: &mut Table, placed: PlacedRow)
     requires tidy { TidyBefore (G.meaning graph.now).modes placed.number table.old }
     requires clear { Clear placed.number table.old }
