@@ -9,26 +9,9 @@ use Rattle.logic.specs.declared.row.Row.{Row}
 use Rattle.logic.specs.declared.row.Row.TheVariants.{Never, Flag, Not, Both, Either, Implies, Box, Diamond, Command, Sequence, Choice, Repetition, Converse, Test}
 use Rattle.label_table.specs.Layout.{table_bytes, pair_bit}
 use Rattle.label_table.specs.Entries.{In, Step, PartsBelow, FormulaSays, OneStep, ProgramSays, Entry}
-use Rattle.label_table.specs.Changes.{Only, Clear, TidyBefore, Filled}
+use Rattle.label_table.specs.Changes.{Only, TidyBefore, Filled}
 use Rattle.label_table.specs.Progress.{Done, SoFar}
 use Rattle.label_table.proofs.Changes.{only_bit}
-
--- parts that are before row q are before any later row
-pub parts_later : (q k : ℕ) (row : Row) → q ≤ k → PartsBelow q row → PartsBelow k row
-parts_later q k Never h p = p
-parts_later q k (Flag f) h p = p
-parts_later q k (Not x) h p = omega arith
-parts_later q k (Both x y) h p = omega arith
-parts_later q k (Either x y) h p = omega arith
-parts_later q k (Implies x y) h p = omega arith
-parts_later q k (Box r x) h p = omega arith
-parts_later q k (Diamond r x) h p = omega arith
-parts_later q k (Command c) h p = p
-parts_later q k (Sequence r t) h p = omega arith
-parts_later q k (Choice r t) h p = omega arith
-parts_later q k (Repetition r) h p = omega arith
-parts_later q k (Converse r) h p = omega arith
-parts_later q k (Test x) h p = omega arith
 
 -- the rows before q have the same bits in both tables
 abbrev SameBefore : ℕ → List ℕ → List ℕ → Type 0
