@@ -25,7 +25,7 @@ pub(crate) struct RowSet {
 impl RowSet {
     // Where the set begins.
     fn start(self) -> SetStart
-        ensures { result ≡ 512 * self.row + 8 * self.mode }
+        ensures answer { result ≡ 512 * self.row + 8 * self.mode }
     {
         program_set(self.row, self.mode)
     }
@@ -41,7 +41,7 @@ impl RowSet {
 
     // Whether some mode is in both sets: a byte of the one has a bit in common with its other.
     pub(crate) fn meets(self, other: RowSet, table: &Table) -> bool
-        ensures { Decides result ((v : ℕ) × (v < 64) × In table.now self.row self.mode v × In table.now other.row other.mode v) }
+        ensures exactly { Decides result ((v : ℕ) × (v < 64) × In table.now self.row self.mode v × In table.now other.row other.mode v) }
     {
         self.bytes(table)
             .iter()
@@ -51,7 +51,7 @@ impl RowSet {
 
     // Whether every mode of this set is in the other: no byte of it has a bit that its other lacks.
     pub(crate) fn is_subset(self, other: RowSet, table: &Table) -> bool
-        ensures { Decides result ((v : ℕ) → v < 64 → In table.now self.row self.mode v → In table.now other.row other.mode v) }
+        ensures exactly { Decides result ((v : ℕ) → v < 64 → In table.now self.row self.mode v → In table.now other.row other.mode v) }
     {
         self.bytes(table)
             .iter()
@@ -63,14 +63,14 @@ impl RowSet {
     // That v is below 64 stays a clause: modes come from ranges of bytes, and a type of their own would be undone at each use.
     pub(crate) fn add_mode(self, table: &mut Table, v: Mode)
         requires { v < 64 }
-        ensures { Gained self.row self.mode (λ x. x ≡ v) table.old table.new }
+        ensures gained { Gained self.row self.mode (λ x. x ≡ v) table.old table.new }
     {
         insert(table, self.start(), v);
     }
 
     // Joins another set to the set. All of the other is read before this one is written to.
     pub(crate) fn add_set(self, table: &mut Table, other: RowSet)
-        ensures { Gained self.row self.mode (In table.old other.row other.mode) table.old table.new }
+        ensures gained { Gained self.row self.mode (In table.old other.row other.mode) table.old table.new }
     {
         let start = self.start() as usize;
         let added = *other.bytes(table);

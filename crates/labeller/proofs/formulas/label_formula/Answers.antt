@@ -23,7 +23,7 @@ loop-u-preserved g c =
           subst P (sym w.table-is)
           (below_found c.args.placed.number 0 S u u old t _ (omega arith) (λ x a b. absurd (omega arith))
           (formula_kept m c.args.placed.number c.args.placed.row old t u few c.args.placed.parts_before c.loop-u.invariant.only low (c.says_true.ensures.exactly.0 w.if-says_true.true))
-          c.loop-u.invariant w.add_mode.ensures)
+          c.loop-u.invariant w.add_mode.ensures.gained)
       | else-says_true w ↦
           subst P (sym w.table-is)
           (below_passed c.args.placed.number 0 S u old t

@@ -11,11 +11,11 @@ returns c =
     let s = c.args.s in
     let old = c.args.table.now in
     let t = c.add_set.new.table in
-    let first = c.add_set.ensures in
+    let first = c.add_set.ensures.gained in
     record {
       gained =
           gained_like q u (λ v. In old c.args.r u v ⊎ In t s u v) (λ v. In old c.args.r u v ⊎ In old s u v) old c.add_set-2.new.table
           (λ v h p. ⊎_elim inl (λ i. inr (sym (only_bit q s u v old t (λ e. omega arith) (omega arith) h first.only) ∙ i)) p)
           (λ v h p. ⊎_elim inl (λ i. inr (only_bit q s u v old t (λ e. omega arith) (omega arith) h first.only ∙ i)) p)
-          (gained_both q u (In old c.args.r u) (In t s u) old t c.add_set-2.new.table first c.add_set-2.ensures);
+          (gained_both q u (In old c.args.r u) (In t s u) old t c.add_set-2.new.table first c.add_set-2.ensures.gained);
     }

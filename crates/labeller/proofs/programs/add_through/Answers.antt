@@ -27,7 +27,7 @@ loop-w-preserved g c =
           (upto_gained q u D w (In t s w) old t _
           (λ v h i. (sym first ∙ sym c.is_joined.ensures.answer ∙ a.if-is_joined.true, sym (only_bit q s w v old t (λ e. omega arith) (omega arith) h c.loop-w.invariant.only) ∙ i))
           (λ v h d. only_bit q s w v old t (λ e. omega arith) (omega arith) h c.loop-w.invariant.only ∙ d.1)
-          c.loop-w.invariant a.add_set.ensures)
+          c.loop-w.invariant a.add_set.ensures.gained)
       | else-is_joined a ↦
           subst P (sym a.table-is)
           (upto_passed q u D w old t

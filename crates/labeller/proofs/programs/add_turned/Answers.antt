@@ -25,7 +25,7 @@ loop-v-preserved g c =
           subst P (sym a.table-is)
           (below_found q u S v v old t _ (omega arith) (λ x h l. absurd (omega arith))
           (sym same ∙ sym c.is_joined.ensures.answer ∙ a.if-is_joined.true)
-          c.loop-v.invariant a.add_mode.ensures)
+          c.loop-v.invariant a.add_mode.ensures.gained)
       | else-is_joined a ↦
           subst P (sym a.table-is)
           (below_passed q u S v old t

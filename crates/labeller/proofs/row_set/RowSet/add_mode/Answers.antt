@@ -7,6 +7,8 @@ use Rattle.labeller.proofs.row_set.RowSet.add_mode.Goals as goal
 
 pub returns : goal.returns
 returns c =
-    subst (λ (t : List ℕ). Gained c.args.self.row c.args.self.mode (λ x. x ≡ c.args.v) c.args.table.now t)
-    (sym (c.insert.ensures.memory ∙ ap (λ (at : ℕ). with_member c.args.table.now at c.args.v) c.start.ensures))
-    (gained_one c.args.self.row c.args.self.mode c.args.v c.args.table.now (omega arith) (omega arith) (omega arith))
+    record {
+      gained = subst (λ (t : List ℕ). Gained c.args.self.row c.args.self.mode (λ x. x ≡ c.args.v) c.args.table.now t)
+          (sym (c.insert.ensures.memory ∙ ap (λ (at : ℕ). with_member c.args.table.now at c.args.v) c.start.ensures.answer))
+          (gained_one c.args.self.row c.args.self.mode c.args.v c.args.table.now (omega arith) (omega arith) (omega arith));
+    }

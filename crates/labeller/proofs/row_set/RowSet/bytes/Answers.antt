@@ -13,4 +13,4 @@ returns-clause-answer c =
     ∙ get_or-take 8 (take (24576 - start) (drop start table)) i 0 h
     ∙ get_or-take (24576 - start) (drop start table) i 0 (omega arith)
     ∙ get_or-drop start table i 0
-    ∙ ap (λ (at : ℕ). get_or table (at + i) 0) c.start-start.ensures
+    ∙ ap (λ (at : ℕ). get_or table (at + i) 0) c.start-start.ensures.answer
