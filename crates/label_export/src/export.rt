@@ -38,14 +38,14 @@ pub extern "C" fn label_rows_over_table(
     ensures ground { (result ≢ 0) → TableGround table.now modes commands flags rows.now memory.old result }
 {
     // The C interface: a function for C answers by a number.
-    match label_table(heap, table, modes, commands, flags, rows, memory) {
+    match label_over_table(heap, table, modes, commands, flags, rows, memory) {
         Ok(()) => LABELLED,
         Err(refused) => refused.number(),
     }
 }
 
 // Labels the rows that the bytes mean over the graph that the table and the counts mean.
-fn label_table(
+fn label_over_table(
     heap: Global,
     table: &[u8],
     modes: u8,
@@ -60,11 +60,11 @@ fn label_table(
     ensures ground { IfErr result (λ e. TableGround table.now modes commands flags rows.now memory.old (refused_number e)) }
 {
     let graph = ListGraph::new(table, modes, commands, flags)?;
-    label_over(heap, &graph, rows, memory)
+    label_over_graph(heap, &graph, rows, memory)
 }
 
 // Labels the rows that the bytes mean over the graph.
-fn label_over(
+fn label_over_graph(
     heap: Global,
     graph: &ListGraph,
     rows: &[u8],
