@@ -1,2 +1,2 @@
 -- The laws of this crate's definitions.
-pub mod Ranges
+pub mod Asked

@@ -3,7 +3,7 @@ use Rattle.std.proofs.Common.{rules, refl, arith}
 use Rattle.std.proofs.lemmas.Iterator.{cases_from_all, YieldsList-from_range}
 use borrow.Author.Tests.{tests}
 use Rattle.graph.specs.Stuck.{Stays}
-use Rattle.graph.proofs.Ranges.{decides_below}
+use Rattle.graph.proofs.Asked.{decides_below}
 use Rattle.graph.proofs.stuck.all_stay.Goals as goal
 
 pub returns : goal.returns
