@@ -7,9 +7,9 @@ use bar::Bar;
 use dial_graph::{DialFlag, DialGraph, Rule};
 use graph::Graph;
 use label_table::TABLE_BYTES;
-use labeller::label;
+use labeller::{Refusal, label};
 use latch::Latch;
-use lines::{label_line, refused_line};
+use lines::{LabelLine, RefusedLine};
 use list_graph::{ListGraph, set_arc, set_flag};
 use logic::{Claim, Row, Scope, Sheet};
 use sheet::read_sheet;
@@ -26,7 +26,7 @@ fn main(rt: HostRuntime) -> anyhow::Result<()> {
     over_t(rt)?;
     over_others(rt)?;
     whole_memory(rt)?;
-    refused(rt)?;
+    unfit(rt)?;
     disorderly(rt)
 }
 
@@ -153,7 +153,7 @@ fn whole_memory(rt: HostRuntime) -> anyhow::Result<()> {
 }
 
 // Sheets that name what the graph lacks: it has 64 modes, two commands and one flag.
-fn refused(rt: HostRuntime) -> anyhow::Result<()> {
+fn unfit(rt: HostRuntime) -> anyhow::Result<()> {
     let len = TABLE_BYTES + BEHIND;
     show_in(rt, "the last flag", "(claim all (P 0))", len)?;
     show_in(rt, "a flag too many", "(claim all (P 1))", len)?;
@@ -197,24 +197,31 @@ fn sheet_of(heap: Global, text: &str) -> Result<Sheet, AllocError> {
 // Every row of a sheet over a graph, by its line.
 fn show<G: Graph>(rt: HostRuntime, name: &str, graph: &G, text: &str) -> anyhow::Result<()> {
     let sheet = sheet_of(rt.alloc(), text)?;
-    let mut labels = vec![in rt.alloc(); UNTOUCHED; TABLE_BYTES]?;
+    let mut table = vec![in rt.alloc(); UNTOUCHED; TABLE_BYTES]?;
     println!(rt; "{name}: {text}")?;
-    match label(graph, &sheet, &mut labels) {
-        Ok(()) => print_labels(rt, sheet.rows(), &labels, graph.modes()),
-        Err(refusal) => {
-            rt.println(refused_line(rt.alloc(), "label", refusal.number())?)?;
-            Ok(())
+    match label(graph, &sheet, &mut table) {
+        Ok(()) => {
+            let modes = graph.modes();
+            for (number, row) in (0..).zip(sheet.rows()) {
+                rt.println(LabelLine {
+                    table: &table,
+                    number,
+                    row: *row,
+                    modes,
+                })?;
+            }
         }
-    }
-}
-
-fn print_labels(rt: HostRuntime, rows: &[Row], labels: &[u8], n: u8) -> anyhow::Result<()> {
-    let mut r: u8 = 0;
-    for row in rows {
-        rt.println(label_line(rt.alloc(), labels, r, *row, n)?)?;
-        r = r.saturating_add(1);
+        Err(refusal) => rt.println(refused(refusal))?,
     }
     Ok(())
+}
+
+// The line of a refusal.
+fn refused(refusal: Refusal) -> RefusedLine<'static> {
+    RefusedLine {
+        word: "label",
+        number: refusal.number(),
+    }
 }
 
 // The answer for a text and a memory of a length.
@@ -233,7 +240,7 @@ fn answer(rt: HostRuntime, name: &str, sheet: &Sheet, len: usize) -> anyhow::Res
     match label(&graph, sheet, &mut memory) {
         Ok(()) => print!(rt; "{name}: labelled; ")?,
         Err(refusal) => {
-            let line = refused_line(rt.alloc(), "label", refusal.number())?;
+            let line = refused(refusal);
             print!(rt; "{name}: {line}; ")?;
         }
     }
@@ -242,22 +249,23 @@ fn answer(rt: HostRuntime, name: &str, sheet: &Sheet, len: usize) -> anyhow::Res
 
 // How many bits of the table are set, unless it is untouched, and how much of what lies behind it is.
 fn print_memory(rt: HostRuntime, memory: &[u8]) -> anyhow::Result<()> {
-    let mut bits: u32 = 0;
-    let mut touched = false;
-    for byte in memory.iter().take(TABLE_BYTES) {
-        bits = bits.saturating_add(byte.count_ones());
-        touched = touched || *byte != UNTOUCHED;
-    }
-    let mut kept = 0usize;
-    for byte in memory.iter().skip(TABLE_BYTES) {
-        if *byte == UNTOUCHED {
-            kept = kept.saturating_add(1);
-        }
-    }
-    if touched {
-        println!(rt; "{bits} bits set, {kept} bytes behind the table kept")?;
-    } else {
+    let kept = memory
+        .iter()
+        .skip(TABLE_BYTES)
+        .filter(|b| **b == UNTOUCHED)
+        .count();
+    if memory.iter().take(TABLE_BYTES).all(|b| *b == UNTOUCHED) {
         println!(rt; "untouched, {kept} bytes behind the table kept")?;
+    } else {
+        let bits = set_bits(memory);
+        println!(rt; "{bits} bits set, {kept} bytes behind the table kept")?;
     }
     Ok(())
+}
+
+fn set_bits(memory: &[u8]) -> u32 {
+    memory
+        .iter()
+        .take(TABLE_BYTES)
+        .fold(0u32, |n, b| n.saturating_add(b.count_ones()))
 }
