@@ -2,7 +2,6 @@
 //! leaves.
 #![tactic(auto)]
 
-use anyhow::anyhow;
 use bar::Bar;
 use dial_graph::{DialFlag, DialGraph, Rule};
 use graph::Graph;
@@ -14,6 +13,7 @@ use list_graph::{ListGraph, set_arc, set_flag};
 use logic::{Claim, Row, Scope, Sheet};
 use sheet::read_sheet;
 use std::alloc::{AllocError, Global};
+use worked_cases::{write_model_s, write_model_t};
 
 // What every byte of the memory holds before a call.
 const UNTOUCHED: u8 = 0xA5;
@@ -30,36 +30,10 @@ fn main(rt: HostRuntime) -> anyhow::Result<()> {
     disorderly(rt)
 }
 
-// Model S: three modes, two commands, two flags.
-fn write_s(bytes: &mut [u8]) {
-    set_flag(bytes, 0, 0);
-    set_flag(bytes, 0, 2);
-    set_flag(bytes, 1, 1);
-    set_flag(bytes, 1, 2);
-    set_arc(bytes, 0, 0, 0);
-    set_arc(bytes, 0, 0, 1);
-    set_arc(bytes, 1, 0, 2);
-    set_arc(bytes, 1, 1, 1);
-    set_arc(bytes, 1, 2, 1);
-}
-
-// Model T: four modes, two commands, one flag.
-fn write_t(bytes: &mut [u8]) {
-    set_flag(bytes, 0, 2);
-    set_arc(bytes, 0, 0, 0);
-    set_arc(bytes, 0, 0, 1);
-    set_arc(bytes, 0, 1, 1);
-    set_arc(bytes, 1, 0, 3);
-    set_arc(bytes, 1, 1, 2);
-    set_arc(bytes, 1, 3, 2);
-}
-
 fn over_s(rt: HostRuntime) -> anyhow::Result<()> {
     let mut bytes = vec![in rt.alloc(); 0u8; list_graph::TABLE_BYTES]?;
-    write_s(&mut bytes);
-    let Ok(s) = ListGraph::new(&bytes, 3, 2, 2) else {
-        return Err(anyhow!("model S is refused"));
-    };
+    write_model_s(&mut bytes);
+    let s = ListGraph::new(&bytes, 3, 2, 2)?;
     show(rt, "S", &s, "(claim all (M (s (b (d 0)) (d 1)) (P 1)))")?;
     show(rt, "S", &s, "(claim all (L (d 0) (P 0)))")?;
     show(rt, "S", &s, "(claim all (M (r (d 1)) (P 0)))")?;
@@ -74,10 +48,8 @@ fn over_s(rt: HostRuntime) -> anyhow::Result<()> {
 
 fn over_t(rt: HostRuntime) -> anyhow::Result<()> {
     let mut bytes = vec![in rt.alloc(); 0u8; list_graph::TABLE_BYTES]?;
-    write_t(&mut bytes);
-    let Ok(t) = ListGraph::new(&bytes, 4, 2, 1) else {
-        return Err(anyhow!("model T is refused"));
-    };
+    write_model_t(&mut bytes);
+    let t = ListGraph::new(&bytes, 4, 2, 1)?;
     show(rt, "T", &t, "(claim all (L (s (d 0) (d 1)) (O)))")?;
     show(rt, "T", &t, "(claim all (L (r (d 1)) (O)))")?;
     show(rt, "T", &t, "(claim all (L (b (d 1)) (O)))")?;
@@ -103,26 +75,18 @@ const LAST: [DialFlag; 1] = [DialFlag {
 // The same call over dials, over a latch and over a bar; and over two graphs of one meaning, which leave the same bytes.
 fn over_others(rt: HostRuntime) -> anyhow::Result<()> {
     let text = "(claim all (M (r (d 0)) (P 0)))";
-    let Ok(dials) = DialGraph::new(&[4], 1, &UP, &LAST) else {
-        return Err(anyhow!("the dial is refused"));
-    };
+    let dials = DialGraph::new(&[4], 1, &UP, &LAST)?;
     show(rt, "dial", &dials, text)?;
     let mut bytes = vec![in rt.alloc(); 0u8; list_graph::TABLE_BYTES]?;
     set_flag(&mut bytes, 0, 3);
     set_arc(&mut bytes, 0, 0, 1);
     set_arc(&mut bytes, 0, 1, 2);
     set_arc(&mut bytes, 0, 2, 3);
-    let Ok(list) = ListGraph::new(&bytes, 4, 1, 1) else {
-        return Err(anyhow!("the list is refused"));
-    };
+    let list = ListGraph::new(&bytes, 4, 1, 1)?;
     compare(rt, &dials, &list, text)?;
-    let Ok(latched) = Latch::new(dials, 0) else {
-        return Err(anyhow!("the latch is refused"));
-    };
+    let latched = Latch::new(dials, 0)?;
     show(rt, "latch over dial", &latched, text)?;
-    let Ok(barred) = Bar::new(latched, &[0]) else {
-        return Err(anyhow!("the bar is refused"));
-    };
+    let barred = Bar::new(latched, &[0])?;
     show(rt, "bar over latch over dial", &barred, text)
 }
 
@@ -233,9 +197,7 @@ fn show_in(rt: HostRuntime, name: &str, text: &str, len: usize) -> anyhow::Resul
 // The answer for a sheet over 64 modes without arcs, and what the memory then holds.
 fn answer(rt: HostRuntime, name: &str, sheet: &Sheet, len: usize) -> anyhow::Result<()> {
     let bytes = vec![in rt.alloc(); 0u8; list_graph::TABLE_BYTES]?;
-    let Ok(graph) = ListGraph::new(&bytes, 64, 2, 1) else {
-        return Err(anyhow!("the graph is refused"));
-    };
+    let graph = ListGraph::new(&bytes, 64, 2, 1)?;
     let mut memory = vec![in rt.alloc(); UNTOUCHED; len]?;
     match label(&graph, sheet, &mut memory) {
         Ok(()) => print!(rt; "{name}: labelled; ")?,
