@@ -3,7 +3,7 @@
 
 use bar::Bar;
 use dial_graph::{DialFlag, DialGraph, Rule};
-use graph::{Command, Graph, Mode, Refusal, is_stuck};
+use graph::{Command, Graph, Mode, Refusal, is_stuck, targets_of};
 use latch::Latch;
 use list_graph::{ListGraph, TABLE_BYTES};
 use worked_cases::{models, write_model_s};
@@ -132,10 +132,8 @@ fn print_targets<G: Graph>(
     u: Mode,
 ) -> anyhow::Result<()> {
     print!(rt; "{name}: command {a} leads from {u} to (")?;
-    for v in 0..g.modes() {
-        if g.joins(a, u, v) {
-            print!(rt; " {v}")?;
-        }
+    for v in targets_of(g, a, u) {
+        print!(rt; " {v}")?;
     }
     println!(rt; " )")?;
     Ok(())
