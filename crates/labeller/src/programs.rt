@@ -9,7 +9,7 @@ use crate::closing::Pairs;
 use crate::formulas::holds;
 use crate::placed::PlacedRow;
 use crate::row_set::{RowSet, Table};
-use graph::{Command, Graph, Mode};
+use graph::{Command, Graph, Mode, targets_of};
 use label_table::is_joined;
 use logic::{Row, RowNumber};
 
@@ -19,10 +19,8 @@ use logic::{Row, RowNumber};
 fn add_targets<G: Graph>(graph: &G, table: &mut Table, set: RowSet, a: Command)
     ensures gained { Gained set.row set.mode (λ v. (G.meaning graph.now).joins a set.mode v ≡ true) table.old table.new }
 {
-    let mut start = 0;
-    while let Some(v) = graph.next_target(a, set.mode, start) {
+    for v in targets_of(graph, a, set.mode) {
         set.add_mode(table, v);
-        start = v + 1;
     }
 }
 
