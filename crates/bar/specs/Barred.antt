@@ -1,13 +1,12 @@
 -- The graph without the arcs of some commands, and when it can be made.
-use Rattle.std.specs.Prelude.{◌≡◌, ℕ, ◌<◌, Bool, false, not, ◌&&◌, ◌||◌, List, [], ◌∷◌, ◌==◌}
+use Rattle.std.specs.Prelude.{◌≡◌, ℕ, ◌<◌, Bool, not, ◌&&◌, List, ◌==◌}
 use Rattle.std.proofs.lemmas.Bool.{and_parts}
-use Rattle.std.specs.List.{AllByRecursion}
+use Rattle.std.specs.List.{AllByRecursion, list_any}
 use Rattle.graph.specs.Meaning.{Meaning, Limits}
 
 -- the command is in the list
 abbrev pub listed : List ℕ → ℕ → Bool
-listed [] a = false
-listed (b ∷ bs) a = b == a || listed bs a
+listed commands a = list_any (λ b. b == a) commands
 
 -- the graph in which the listed commands join nothing; all else is as it was
 abbrev pub barred : List ℕ → Meaning → Meaning

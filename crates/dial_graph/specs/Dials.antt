@@ -2,9 +2,9 @@
 use Rattle.std.specs.Prelude.{ℕ, ◌+◌, ◌*◌, ◌/◌, ◌%◌, ◌<◌, ◌≤◌, Bool, cond, ◌&&◌, List, length, ℤ, pos, negsuc, neg_ℤ, ◌≤ℤ◌, ◌==◌, nat_le, nat_lt, slice_index_or}
 use Rattle.std.proofs.lemmas.Bool.{and_parts, ltb-true}
 use Rattle.std.proofs.lemmas.Nat.{mul-le}
-use Rattle.std.specs.List.{AllByRecursion}
+use Rattle.std.specs.List.{AllByRecursion, list_any}
 use Rattle.graph.specs.Meaning.{Meaning, Limits, mode_limit, command_limit, flag_limit}
-use Rattle.dial_graph.specs.Lists.{some_of, test_at}
+use Rattle.dial_graph.specs.Lists.{test_at}
 use Rattle.dial_graph.specs.declared.rules.Rule.{Rule}
 use Rattle.dial_graph.specs.declared.rules.DialFlag.{DialFlag}
 use Rattle.dial_graph.specs.declared.sizes.Sizes.{Sizes}
@@ -77,7 +77,7 @@ dial_meaning s c rules flags = record {
   commands = c;
   flags = length flags;
   stands = λ p u. nat_lt p (length flags) && (nat_lt u (settings s) && test_at (flag_shows s u) flags p);
-  joins = λ a u v. nat_lt a c && (nat_lt u (settings s) && (nat_lt v (settings s) && some_of (rule_joins s a u v) rules));
+  joins = λ a u v. nat_lt a c && (nat_lt u (settings s) && (nat_lt v (settings s) && list_any (rule_joins s a u v) rules));
 }
 
 -- every dial has 1 to 8 positions

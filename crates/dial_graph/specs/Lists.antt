@@ -1,10 +1,5 @@
 -- What is asked of a list by a test.
-use Rattle.std.specs.Prelude.{ℕ, zero, suc, Bool, false, ◌||◌, List, [], ◌∷◌}
-
--- whether some element passes the test
-abbrev pub some_of : {X : Type 0} → (X → Bool) → List X → Bool
-some_of f [] = false
-some_of f (x ∷ xs) = f x || some_of f xs
+use Rattle.std.specs.Prelude.{ℕ, zero, suc, Bool, false, List, [], ◌∷◌}
 
 -- whether element i, counted from 0, is there and passes the test
 abbrev pub test_at : {X : Type 0} → (X → Bool) → List X → ℕ → Bool

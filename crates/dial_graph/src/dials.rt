@@ -1,8 +1,9 @@
 //! The dial graph, its constructor, and its answers to the questions of every graph.
 
 ghost use Rattle.std.specs.Prelude.{◌≡◌};
+ghost use Rattle.std.specs.List.{list_any};
 ghost use Rattle.dial_graph.specs.Dials.{CountsFit};
-ghost use Rattle.dial_graph.specs.Lists.{some_of, test_at};
+ghost use Rattle.dial_graph.specs.Lists.{test_at};
 
 use crate::checks::fitting_sizes;
 use crate::rules::{Dial, DialFlag, Rule};
@@ -65,7 +66,7 @@ impl<'a> DialGraph<'a> {
 
     // Whether some rule lets command a join mode u to mode v.
     fn some_joins(&self, a: Command, u: Mode, v: Mode) -> bool
-        ensures answer { result ≡ some_of (rule_joins self.now.sizes a u v) self.now.rules.now }
+        ensures answer { result ≡ list_any (rule_joins self.now.sizes a u v) self.now.rules.now }
     {
         for rule in self.rules {
             if rule.joins(self, a, u, v) {

@@ -1,5 +1,6 @@
 -- The worked cases, as one statement about the definitions.
-use Rattle.std.specs.Prelude.{◌≡◌, ℕ, ◌<◌, Bool, false, ◌&&◌, ◌||◌, List, [], ◌∷◌, negsuc, Decides, ◌==◌}
+use Rattle.std.specs.Prelude.{◌≡◌, ℕ, ◌<◌, Bool, false, ◌&&◌, List, [], ◌∷◌, negsuc, Decides, ◌==◌}
+use Rattle.std.specs.List.{list_any}
 use Rattle.graph.specs.Meaning.{Meaning}
 use Rattle.dial_graph.specs.Dials.{dial_meaning, sizes_of}
 use Rattle.dial_graph.specs.declared.rules.Rule.{Rule}
@@ -18,8 +19,7 @@ two_dials = dial_meaning (sizes_of (4 ∷ (2 ∷ []))) 1 (step_down ∷ []) []
 
 -- u is one of these numbers
 abbrev pub listed : List ℕ → ℕ → Bool
-listed [] u = false
-listed (x ∷ xs) u = x == u || listed xs u
+listed us u = list_any (λ x. x == u) us
 
 -- a mode from which a program leads, and one to which it leads from there
 pub record Pair : Type 0 where
@@ -28,8 +28,7 @@ pub record Pair : Type 0 where
 
 -- u and v, in this order, are one of these pairs
 abbrev pub pair_listed : List Pair → ℕ → ℕ → Bool
-pair_listed [] u v = false
-pair_listed (x ∷ xs) u v = (x.from == u && x.to == v) || pair_listed xs u v
+pair_listed ps u v = list_any (λ x. x.from == u && x.to == v) ps
 
 -- among the modes, the formula is true at exactly these
 unfoldable pub TrueExactly : Meaning → Formula → List ℕ → Type 0

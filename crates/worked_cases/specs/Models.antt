@@ -1,5 +1,6 @@
 -- The models that the worked cases speak of.
-use Rattle.std.specs.Prelude.{ℕ, Bool, false, ◌&&◌, ◌||◌, List, [], ◌∷◌, ◌==◌}
+use Rattle.std.specs.Prelude.{ℕ, Bool, ◌&&◌, List, [], ◌∷◌, ◌==◌}
+use Rattle.std.specs.List.{list_any}
 use Rattle.graph.specs.Meaning.{Meaning}
 use Rattle.list_graph.specs.Layout.{joined, marked}
 
@@ -16,13 +17,11 @@ pub record Arc : Type 0 where
 
 -- flag p with mode u is one of these marks
 abbrev pub mark_listed : List Mark → ℕ → ℕ → Bool
-mark_listed [] p u = false
-mark_listed (m ∷ ms) p u = (m.flag == p && m.mode == u) || mark_listed ms p u
+mark_listed marks p u = list_any (λ m. m.flag == p && m.mode == u) marks
 
 -- command a with modes u and v is one of these arcs
 abbrev pub arc_listed : List Arc → ℕ → ℕ → ℕ → Bool
-arc_listed [] a u v = false
-arc_listed (x ∷ xs) a u v = (x.command == a && (x.from == u && x.to == v)) || arc_listed xs a u v
+arc_listed arcs a u v = list_any (λ x. x.command == a && (x.from == u && x.to == v)) arcs
 
 -- the graph of exactly these marks and arcs
 abbrev pub drawn : ℕ → ℕ → ℕ → List Mark → List Arc → Meaning
