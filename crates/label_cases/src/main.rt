@@ -8,7 +8,7 @@ use graph::Graph;
 use label_table::TABLE_BYTES;
 use labeller::{Refusal, label};
 use latch::Latch;
-use lines::{LabelLine, RefusedLine};
+use lines::{Front, LabelLine, RefusedLine};
 use list_graph::{ListGraph, set_arc, set_flag};
 use logic::{Claim, Row, Scope, Sheet};
 use sheet::read_sheet;
@@ -209,25 +209,14 @@ fn answer(rt: HostRuntime, name: &str, sheet: &Sheet, len: usize) -> anyhow::Res
     print_memory(rt, &memory)
 }
 
-// How many bits of the table are set, unless it is untouched, and how much of what lies behind it is.
+// How many bits of the table are set, unless it is untouched, and how much of what lies behind it is kept.
 fn print_memory(rt: HostRuntime, memory: &[u8]) -> anyhow::Result<()> {
-    let kept = memory
-        .iter()
-        .skip(TABLE_BYTES)
-        .filter(|b| **b == UNTOUCHED)
-        .count();
-    if memory.iter().take(TABLE_BYTES).all(|b| *b == UNTOUCHED) {
-        println!(rt; "untouched, {kept} bytes behind the table kept")?;
-    } else {
-        let bits = set_bits(memory);
-        println!(rt; "{bits} bits set, {kept} bytes behind the table kept")?;
-    }
+    let (table, behind) = memory.split_at(memory.len().min(TABLE_BYTES));
+    let front = Front {
+        bytes: table,
+        before: UNTOUCHED,
+    };
+    let kept = behind.iter().filter(|b| **b == UNTOUCHED).count();
+    println!(rt; "{front}, {kept} bytes behind the table kept")?;
     Ok(())
-}
-
-fn set_bits(memory: &[u8]) -> u32 {
-    memory
-        .iter()
-        .take(TABLE_BYTES)
-        .fold(0u32, |n, b| n.saturating_add(b.count_ones()))
 }

@@ -2,3 +2,4 @@
 pub mod Lines
 pub mod ClaimLines
 pub mod LabelLines
+pub mod Memory

@@ -3,11 +3,14 @@
 
 mod claims;
 mod labels;
+mod memory;
 mod word_lines;
 
 /// The lines of a claim sheet.
 pub use claims::{ClaimLine, RowLine};
 /// The line of a row of a label table.
 pub use labels::LabelLine;
+/// What a memory holds after a call.
+pub use memory::Front;
 /// Lines of a word and numbers: a count, a mode, a refusal.
 pub use word_lines::{NumberLine, RefusalLine, RefusedLine};

@@ -1,7 +1,7 @@
 //! Reads good tables and tables with each fault, and prints what each call answers and what it leaves in memory.
 #![tactic(auto)]
 
-use lines::RefusalLine;
+use lines::{Front, RefusalLine};
 use list_graph::TABLE_BYTES;
 use std::alloc::{AllocError, Global};
 use table::read_table;
@@ -158,25 +158,18 @@ fn show_in(rt: HostRuntime, name: &str, text: &[u8], len: usize) -> anyhow::Resu
     print_memory(rt, &memory)
 }
 
-// How many bits of the table are set, unless it is untouched, and whether what lies behind it is.
+// How many bits of the table are set, unless it is untouched, and then how much of what lies behind it is kept.
 fn print_memory(rt: HostRuntime, memory: &[u8]) -> anyhow::Result<()> {
-    if memory.iter().take(TABLE_BYTES).all(|b| *b == UNTOUCHED) {
-        println!(rt; "untouched")?;
-    } else {
-        let bits = set_bits(memory);
-        let kept = memory
-            .iter()
-            .skip(TABLE_BYTES)
-            .filter(|b| **b == UNTOUCHED)
-            .count();
-        println!(rt; "{bits} bits set, {kept} bytes behind the table kept")?;
+    let (table, behind) = memory.split_at(memory.len().min(TABLE_BYTES));
+    let front = Front {
+        bytes: table,
+        before: UNTOUCHED,
+    };
+    if front.is_untouched() {
+        println!(rt; "{front}")?;
+        return Ok(());
     }
+    let kept = behind.iter().filter(|b| **b == UNTOUCHED).count();
+    println!(rt; "{front}, {kept} bytes behind the table kept")?;
     Ok(())
-}
-
-fn set_bits(memory: &[u8]) -> u32 {
-    memory
-        .iter()
-        .take(TABLE_BYTES)
-        .fold(0u32, |n, b| n.saturating_add(b.count_ones()))
 }
