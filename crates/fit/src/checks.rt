@@ -54,6 +54,7 @@ fn parts_before(before: &[Row], row: Row) -> bool
 }
 
 // Whether row j is among these rows, and is a formula.
+// It and the next are two functions: with a flag for the sort `parts_before` would no longer say by name which sort a part has.
 fn formula_before(before: &[Row], j: RowNumber) -> bool
     ensures exactly { Decides result (FormulaBefore before.now (length before.now) j) }
 {

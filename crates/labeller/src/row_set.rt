@@ -74,6 +74,7 @@ impl RowSet {
     {
         let start = self.start() as usize;
         let added = *other.bytes(table);
+        // By place: it was tried with `iter_mut`, of which a proof knows afterwards how many bytes there are, and not which.
         for (i, byte) in added.iter().enumerate() {
             table[start + i] |= *byte;
         }
