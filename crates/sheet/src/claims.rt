@@ -59,7 +59,7 @@ impl<'a> Reader<'a> {
         ensures shorter { left self.new.forms.words ≤ left self.old.forms.words }
     {
         let name = self.forms.name()?;
-        if !same_word(name.bytes, b"claim") {
+        if !same_word(name.value, b"claim") {
             return Err(
                 self.forms
                     .fault(Reason::Misplaced, Layer::Forms, name.place),
@@ -79,7 +79,7 @@ impl<'a> Reader<'a> {
     {
         match self.forms.item()? {
             Item::Name(name) => {
-                if same_word(name.bytes, b"all") {
+                if same_word(name.value, b"all") {
                     Ok(Scope::All)
                 } else {
                     Err(

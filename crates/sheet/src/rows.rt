@@ -18,7 +18,7 @@ impl<'a> Reader<'a> {
         ensures shorter { left self.new.forms.words ≤ left self.old.forms.words }
     {
         let name = self.forms.name()?;
-        match name.bytes {
+        match name.value {
             [letter] => Ok(Letter {
                 letter: char::from(*letter),
                 place: name.place,

@@ -43,7 +43,7 @@ impl<'a> Table<'a> {
         ensures shorter { left self.new.forms.words ≤ left self.old.forms.words }
     {
         let name = self.forms.name()?;
-        match keyword(name.bytes) {
+        match keyword(name.value) {
             Some(key) => Ok(Head {
                 key,
                 place: name.place,

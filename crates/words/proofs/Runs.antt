@@ -2,10 +2,9 @@
 use Rattle.std.proofs.Common.{◌≡◌, ℕ, List, take, Ok, Err, sym, refl, ap, ◌∙◌}
 use Rattle.std.proofs.lemmas.Bool.{ne_eqb}
 use Rattle.words.specs.declared.fault.Reason.{Reason}
-use Rattle.words.specs.declared.run.Class.TheVariants.{Run}
-use Rattle.words.specs.Words.{Reading, bad, Tok, prefix, run_token, read_run, run_from, moved, here, word_fault, token_here}
+use Rattle.words.specs.Words.{Reading, bad, Tok, run_length, run_token, read_run, run_from, moved, here, word_fault, token_here}
 
-module _ (p : Reading) (n : ℕ) (part : List ℕ) (long : n ≡ prefix Run p.rest) (some : n ≡ 0 → ⊥) (cut : part ≡ take n p.rest) where
+module _ (p : Reading) (n : ℕ) (part : List ℕ) (long : n ≡ run_length p.rest) (some : n ≡ 0 → ⊥) (cut : part ≡ take n p.rest) where
   from_read : run_from p ≡ read_run (run_token part) p (moved p n)
   from_read =
       let h = ne_eqb n 0 some in
