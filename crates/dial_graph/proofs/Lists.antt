@@ -1,9 +1,7 @@
--- What a loop over a list learns of `some_of` and of `AllByRecursion`, and what `test_at` reads.
-use Rattle.std.proofs.Common.{◌≡◌, ℕ, zero, suc, ◌+◌, ◌<◌, ◌≤◌, Bool, true, false, ◌||◌, List, [], ◌∷◌, ◌++◌, length, get_or, take, drop, Decides, sym, refl, ap, ◌∙◌, subst, le_of_suc-le-suc, arith}
-use Rattle.std.proofs.ByRecursion.{All-get_or}
+-- What a loop over a list learns of `some_of`, and what `test_at` reads.
+use Rattle.std.proofs.Common.{◌≡◌, ℕ, zero, suc, ◌+◌, ◌<◌, ◌≤◌, Bool, true, false, ◌||◌, List, [], ◌∷◌, ◌++◌, length, get_or, take, drop, sym, refl, ap, ◌∙◌, le_of_suc-le-suc, arith}
 use Rattle.std.proofs.lemmas.List.{take_all, take-append-drop, take_more}
-use Rattle.std.proofs.lemmas.Bool.{or_from, or_left, or_right, false≢true}
-use Rattle.std.specs.List.{AllByRecursion}
+use Rattle.std.proofs.lemmas.Bool.{or_from, or_left, or_right}
 use Rattle.dial_graph.specs.Lists.{some_of, test_at}
 
 or_assoc : (a b c : Bool) → ((a || b) || c) ≡ (a || (b || c))
@@ -42,12 +40,3 @@ module _ {X : Type 0} (f : X → Bool) where
   test_at_past [] i h = refl
   test_at_past (x ∷ xs) zero h = let none : ⊥ = omega arith in absurd none
   test_at_past (x ∷ xs) (suc i) h = test_at_past xs i (le_of_suc-le-suc h)
-
-module _ {X : Type 0} (P : X → Type 0) where
-  -- element i is one of which it does not hold
-  pub not_all : (xs : List X) (i : ℕ) (d : X) → i < length xs → (P (get_or xs i d) → ⊥) → Decides false (AllByRecursion P xs)
-  not_all xs i d h here = (λ e. absurd (false≢true e), λ all. absurd (here (All-get_or P xs i d h all)))
-
-  -- it holds of all elements
-  pub all_done : (xs : List X) (n : ℕ) → length xs ≤ n → AllByRecursion P (take n xs) → Decides true (AllByRecursion P xs)
-  all_done xs n h all = (λ _. subst (AllByRecursion P) (take_all n xs h) all, λ _. refl)

@@ -1,9 +1,8 @@
--- Every setting has its number, every mode is a setting, and what is within the limits is not changed by holding it to them.
-use Rattle.std.proofs.Common.{◌≡◌, ℕ, ◌+◌, ◌*◌, ◌/◌, ◌%◌, ◌≤◌, min, List, length, sym, ap, ◌∙◌, mul_assoc, mul_comm, add-mul, arith}
+-- Every setting has its number, every mode is a setting, and what is made of dials that fit.
+use Rattle.std.proofs.Common.{◌≡◌, ℕ, ◌+◌, ◌*◌, ◌/◌, ◌%◌, List, sym, ap, subst, ◌∙◌, mul_assoc, mul_comm, add-mul, arith}
 use native.Mathlib.Nat.{div-div-eq-div-mul}
 use Rattle.std.proofs.lemmas.Nat.{div-add-mod', div_below, div-mul-add, mod_below, mod-mul-add, mul-add-lt, mul-le}
-use Rattle.graph.specs.Meaning.{mode_limit, command_limit, flag_limit}
-use Rattle.dial_graph.specs.Dials.{Fits, SizesFit, counted_meaning, held, held_meaning, held_sizes, number, position_limit, settings, sizes_of}
+use Rattle.dial_graph.specs.Dials.{CountsFit, Fits, SizesFit, dial_meaning, number, sizes_of}
 use Rattle.dial_graph.specs.Made.{Accepted, AllAreSettings, AllHaveNumbers}
 use Rattle.dial_graph.specs.declared.rules.Rule.{Rule}
 use Rattle.dial_graph.specs.declared.rules.DialFlag.{DialFlag}
@@ -48,52 +47,21 @@ all_are_settings s fit u h =
       its_number = ap (number s (u % s.first) (rest % s.second)) rows ∙ back;
     }
 
--- a number within the limits is not changed
-held_same : (low high n : ℕ) → low ≤ n → n ≤ high → held low high n ≡ n
-held_same low high n h k = omega arith
+-- what is accepted, where the limits are kept
+pub accepted : (dials : List ℕ) (c : ℕ) (rules : List Rule) (flags : List DialFlag) (s : Sizes) → s ≡ sizes_of dials → Fits dials c rules flags → Accepted dials c rules flags (dial_meaning s c rules flags)
+accepted dials c rules flags s e fits = record {
+  fits = fits;
+  means = ap (λ (x : Sizes). dial_meaning x c rules flags) e;
+  numbers = all_have_numbers (sizes_of dials);
+  modes = all_are_settings (sizes_of dials) fits.positions;
+}
 
--- the sizes of three dials, and that equal numbers of positions make equal sizes
-abbrev three : ℕ → ℕ → ℕ → Sizes
-three d e h = record { first = d; second = e; third = h }
-
-three_same : (d e h d' e' h' : ℕ) → d ≡ d' → e ≡ e' → h ≡ h' → three d e h ≡ three d' e' h'
-three_same d e h d' e' h' p q r = cc
-
--- sizes within the limits are not changed
-sizes_same : (s : Sizes) → SizesFit s → held_sizes s ≡ s
-sizes_same s fit =
-    three_same _ _ _ _ _ _
-    (held_same 1 position_limit s.first fit.first_low fit.first_high)
-    (held_same 1 position_limit s.second fit.second_low fit.second_high)
-    (held_same 1 position_limit s.third fit.third_low fit.third_high)
-
--- there is a setting
-some_setting : (s : Sizes) → SizesFit s → 1 ≤ settings s
-some_setting s fit =
-    let two = mul-le 1 1 s.first s.second fit.first_low fit.second_low in
-    mul-le 1 1 (s.first * s.second) s.third two fit.third_low
-
--- equal parts make equal meanings
-counted_same : (n n' c c' f f' : ℕ) (s s' : Sizes) (rules : List Rule) (flags : List DialFlag) → n ≡ n' → c ≡ c' → f ≡ f' → s ≡ s' → counted_meaning n c f s rules flags ≡ counted_meaning n' c' f' s' rules flags
-counted_same n n' c c' f f' s s' rules flags en ec ef es =
-    ap (λ (x : ℕ). counted_meaning x c f s rules flags) en
-    ∙ ap (λ (x : ℕ). counted_meaning n' x f s rules flags) ec
-    ∙ ap (λ (x : ℕ). counted_meaning n' c' x s rules flags) ef
-    ∙ ap (λ (x : Sizes). counted_meaning n' c' f' x rules flags) es
-
--- where the limits are kept, the meaning of the sizes is the plain one
-pub accepted : (dials : List ℕ) (c : ℕ) (rules : List Rule) (flags : List DialFlag) (s : Sizes) → s ≡ sizes_of dials → Fits dials c rules flags → Accepted dials c rules flags (held_meaning s c rules flags)
-accepted dials c rules flags s e fits =
-    let t = sizes_of dials in
-    let same : held_sizes s ≡ t = ap held_sizes e ∙ sizes_same t fits.positions in
-    let modes : held 1 mode_limit (settings (held_sizes s)) ≡ settings t =
-    ap (λ (x : Sizes). held 1 mode_limit (settings x)) same
-    ∙ held_same 1 mode_limit (settings t) (some_setting t fits.positions) fits.settings_high in
-    let commands = held_same 1 command_limit c fits.commands_low fits.commands_high in
-    let count : min (length flags) flag_limit ≡ length flags = omega (arith, fits.flags_high) in
-    record {
-      fits = fits;
-      means = counted_same _ _ _ _ _ _ _ _ rules flags modes commands count same;
-      numbers = all_have_numbers t;
-      modes = all_are_settings t fits.positions;
-    }
+-- and the sizes then fit
+pub counts_fit : (dials : List ℕ) (c : ℕ) (rules : List Rule) (flags : List DialFlag) (s : Sizes) → s ≡ sizes_of dials → Fits dials c rules flags → CountsFit s c flags
+counts_fit dials c rules flags s e fits = subst (λ (x : Sizes). CountsFit x c flags) (sym e) (record {
+  positions = fits.positions;
+  settings_high = fits.settings_high;
+  commands_low = fits.commands_low;
+  commands_high = fits.commands_high;
+  flags_high = fits.flags_high;
+})

@@ -1,7 +1,7 @@
 -- The graph that dials, rules and flags mean. A mode is a setting of the dials.
-use Rattle.std.specs.Prelude.{ℕ, ◌+◌, ◌*◌, ◌/◌, ◌%◌, ◌<◌, ◌≤◌, min, max, Bool, cond, ◌&&◌, List, length, ℤ, pos, negsuc, neg_ℤ, ◌≤ℤ◌, ◌==◌, nat_le, nat_lt, slice_index_or}
-use Rattle.std.proofs.Common.{arith}
+use Rattle.std.specs.Prelude.{ℕ, ◌+◌, ◌*◌, ◌/◌, ◌%◌, ◌<◌, ◌≤◌, Bool, cond, ◌&&◌, List, length, ℤ, pos, negsuc, neg_ℤ, ◌≤ℤ◌, ◌==◌, nat_le, nat_lt, slice_index_or}
 use Rattle.std.proofs.lemmas.Bool.{and_parts, ltb-true}
+use Rattle.std.proofs.lemmas.Nat.{mul-le}
 use Rattle.std.specs.List.{AllByRecursion}
 use Rattle.graph.specs.Meaning.{Meaning, Limits, mode_limit, command_limit, flag_limit}
 use Rattle.dial_graph.specs.Lists.{some_of, test_at}
@@ -69,20 +69,16 @@ rule_joins s a u v r = r.command == a && (in_range r.low r.high (position s r.gu
 abbrev pub flag_shows : Sizes → ℕ → DialFlag → Bool
 flag_shows s u f = in_range f.low f.high (position s f.dial u)
 
--- The graph of n modes, c commands and f flags: a flag stands where its dial is in its range, and a command joins where some
--- rule does.
-abbrev pub counted_meaning : ℕ → ℕ → ℕ → Sizes → List Rule → List DialFlag → Meaning
-counted_meaning n c f s rules flags = record {
-  modes = n;
-  commands = c;
-  flags = f;
-  stands = λ p u. nat_lt p f && (nat_lt u n && test_at (flag_shows s u) flags p);
-  joins = λ a u v. nat_lt a c && (nat_lt u n && (nat_lt v n && some_of (rule_joins s a u v) rules));
-}
-
--- the graph of the dials, with c commands, the rules and the flags: its modes are all settings of the dials
+-- The graph of the dials, with c commands, the rules and the flags: its modes are all settings of the dials. A flag stands where
+-- its dial is in its range, and a command joins where some rule does.
 abbrev pub dial_meaning : Sizes → ℕ → List Rule → List DialFlag → Meaning
-dial_meaning s c rules flags = counted_meaning (settings s) c (length flags) s rules flags
+dial_meaning s c rules flags = record {
+  modes = settings s;
+  commands = c;
+  flags = length flags;
+  stands = λ p u. nat_lt p (length flags) && (nat_lt u (settings s) && test_at (flag_shows s u) flags p);
+  joins = λ a u v. nat_lt a c && (nat_lt u (settings s) && (nat_lt v (settings s) && some_of (rule_joins s a u v) rules));
+}
 
 -- every dial has 1 to 8 positions
 pub record SizesFit (s : Sizes) : Type 0 where
@@ -118,40 +114,31 @@ pub record Fits (dials : List ℕ) (c : ℕ) (rules : List Rule) (flags : List D
   pub rules_fit : AllByRecursion (RuleFits (length dials) c) rules
   pub flags_fit : AllByRecursion (FlagFits (length dials)) flags
 
--- a number held between two limits
-abbrev pub held : ℕ → ℕ → ℕ → ℕ
-held low high n = max (min n high) low
+-- what the sizes, the commands and the flags of a dial graph keep
+pub record CountsFit (s : Sizes) (c : ℕ) (flags : List DialFlag) : Type 0 where
+  pub positions : SizesFit s
+  pub settings_high : settings s ≤ mode_limit
+  pub commands_low : 1 ≤ c
+  pub commands_high : c ≤ command_limit
+  pub flags_high : length flags ≤ flag_limit
 
--- the sizes, each held to the limits
-abbrev pub held_sizes : Sizes → Sizes
-held_sizes s = record {
-  first = held 1 position_limit s.first;
-  second = held 1 position_limit s.second;
-  third = held 1 position_limit s.third;
-}
-
--- What the fields of any dial graph mean, be they made by its constructor or not: sizes and counts outside of the limits,
--- which the constructor refuses, are held to them.
-abbrev pub held_meaning : Sizes → ℕ → List Rule → List DialFlag → Meaning
-held_meaning s c rules flags =
-    let t = held_sizes s in
-    counted_meaning (held 1 mode_limit (settings t)) (held 1 command_limit c) (min (length flags) flag_limit) t rules flags
-
--- so every dial graph keeps the limits
-pub held_limits : (s : Sizes) (c : ℕ) (rules : List Rule) (flags : List DialFlag) → Limits (held_meaning s c rules flags)
-held_limits s c rules flags = record {
-  modes_low = omega arith;
-  modes_high = omega arith;
-  commands_low = omega arith;
-  commands_high = omega arith;
-  flags_high = omega arith;
-  stands_in = λ p u e.
-      let h = and_parts _ _ e in
-      let k = and_parts _ _ h.1 in
-      (ltb-true _ _ h.0, ltb-true _ _ k.0);
-  joins_in = λ a u v e.
-      let h = and_parts _ _ e in
-      let k = and_parts _ _ h.1 in
-      let l = and_parts _ _ k.1 in
-      (ltb-true _ _ h.0, ltb-true _ _ k.0, ltb-true _ _ l.0);
-}
+-- the graph that dials, commands, rules and flags mean keeps the limits
+pub dial_limits : (s : Sizes) (c : ℕ) (rules : List Rule) (flags : List DialFlag) → CountsFit s c flags → Limits (dial_meaning s c rules flags)
+dial_limits s c rules flags counts =
+    let fit = counts.positions in
+    record {
+      modes_low = mul-le 1 1 (s.first * s.second) s.third (mul-le 1 1 s.first s.second fit.first_low fit.second_low) fit.third_low;
+      modes_high = counts.settings_high;
+      commands_low = counts.commands_low;
+      commands_high = counts.commands_high;
+      flags_high = counts.flags_high;
+      stands_in = λ p u e.
+          let h = and_parts _ _ e in
+          let k = and_parts _ _ h.1 in
+          (ltb-true _ _ h.0, ltb-true _ _ k.0);
+      joins_in = λ a u v e.
+          let h = and_parts _ _ e in
+          let k = and_parts _ _ h.1 in
+          let l = and_parts _ _ k.1 in
+          (ltb-true _ _ h.0, ltb-true _ _ k.0, ltb-true _ _ l.0);
+    }

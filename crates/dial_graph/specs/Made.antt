@@ -1,9 +1,9 @@
 -- What the constructor of a dial graph makes, and on which ground it refuses.
-use Rattle.std.specs.Prelude.{◌≡◌, ℕ, ◌<◌, List, Some, None, Ok, Err, Option, Result}
-use Rattle.graph.specs.Meaning.{Meaning}
+use Rattle.std.specs.Prelude.{◌≡◌, ℕ, ◌<◌, List, Ok, Err, Result}
+use Rattle.graph.specs.Meaning.{Meaning, Limits}
 use Rattle.graph.specs.Refusals.{refusal_number}
 use Rattle.graph.specs.declared.refusal.Refusal.{Refusal}
-use Rattle.dial_graph.specs.Dials.{Fits, dial_meaning, held_meaning, number, position, settings, sizes_of}
+use Rattle.dial_graph.specs.Dials.{Fits, dial_limits, dial_meaning, number, position, settings, sizes_of}
 use Rattle.dial_graph.specs.declared.rules.Rule.{Rule}
 use Rattle.dial_graph.specs.declared.rules.DialFlag.{DialFlag}
 use Rattle.dial_graph.specs.declared.sizes.Sizes.{Sizes}
@@ -11,7 +11,11 @@ use Rattle.dial_graph.specs.declared.dials.DialGraph.{DialGraph}
 
 -- what a dial graph means
 abbrev pub meaning_of : DialGraph → Meaning
-meaning_of g = held_meaning g.sizes g.commands g.rules.now g.flags.now
+meaning_of g = dial_meaning g.sizes g.commands g.rules.now g.flags.now
+
+-- so every dial graph keeps the limits
+pub held_limits : (g : DialGraph) → Limits (meaning_of g)
+held_limits g = dial_limits g.sizes g.commands g.rules.now g.flags.now g.counts
 
 -- the setting with the dials at x0, x1 and x2 has a number that is a mode, and at that mode the dials are at x0, x1 and x2
 pub record HasNumber (s : Sizes) (x0 x1 x2 : ℕ) : Type 0 where
@@ -48,7 +52,7 @@ abbrev pub Made : List ℕ → ℕ → List Rule → List DialFlag → Result Di
 Made dials c rules flags (Ok g) = Accepted dials c rules flags (meaning_of g)
 Made dials c rules flags (Err e) = (refusal_number e ≡ 16) × (Fits dials c rules flags → ⊥)
 
--- the sizes of a dial graph that can be made, or none where some limit is broken
-abbrev pub Fitting : List ℕ → ℕ → List Rule → List DialFlag → Option Sizes → Type 0
-Fitting dials c rules flags (Some s) = Accepted dials c rules flags (held_meaning s c rules flags)
-Fitting dials c rules flags None = Fits dials c rules flags → ⊥
+-- the sizes of dials of which a graph can be made; a refusal has number 16 and some limit is then broken
+abbrev pub Fitting : List ℕ → ℕ → List Rule → List DialFlag → Result Sizes Refusal → Type 0
+Fitting dials c rules flags (Ok s) = (s ≡ sizes_of dials) × Fits dials c rules flags
+Fitting dials c rules flags (Err e) = (refusal_number e ≡ 16) × (Fits dials c rules flags → ⊥)

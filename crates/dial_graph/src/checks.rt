@@ -7,7 +7,7 @@ ghost use Rattle.dial_graph.specs.Made.{Fitting};
 
 use crate::rules::{DialFlag, RULE_LIMIT, Rule, STEP_LIMIT};
 use crate::sizes::{DIAL_LIMIT, Sizes};
-use graph::{COMMAND_LIMIT, FLAG_LIMIT, MODE_LIMIT};
+use graph::{COMMAND_LIMIT, FLAG_LIMIT, MODE_LIMIT, Refusal};
 
 // Whether the rule names a command and dials that are there, and its step is within its limits.
 fn rule_fits(count: usize, commands: u8, rule: &Rule) -> bool
@@ -24,24 +24,14 @@ fn rule_fits(count: usize, commands: u8, rule: &Rule) -> bool
 fn rules_fit(count: usize, commands: u8, rules: &[Rule]) -> bool
     ensures exactly { Decides result (AllByRecursion (RuleFits count commands) rules.now) }
 {
-    for rule in rules {
-        if !rule_fits(count, commands, rule) {
-            return false;
-        }
-    }
-    true
+    rules.iter().all(|rule| rule_fits(count, commands, rule))
 }
 
 // Whether every flag names a dial that is there.
 fn flags_fit(count: usize, flags: &[DialFlag]) -> bool
     ensures exactly { Decides result (AllByRecursion (FlagFits count) flags.now) }
 {
-    for flag in flags {
-        if flag.dial as usize >= count {
-            return false;
-        }
-    }
-    true
+    flags.iter().all(|flag| (flag.dial as usize) < count)
 }
 
 // Whether every limit is kept.
@@ -67,11 +57,12 @@ pub(crate) fn fitting_sizes(
     commands: u8,
     rules: &[Rule],
     flags: &[DialFlag],
-) -> Option<Sizes>
+) -> Result<Sizes, Refusal>
     ensures made { Fitting dials.now commands rules.now flags.now result }
 {
-    if !all_fit(dials, commands, rules, flags) {
-        return None;
+    if all_fit(dials, commands, rules, flags) {
+        Ok(Sizes::new(dials))
+    } else {
+        Err(Refusal::LimitBroken)
     }
-    Some(Sizes::new(dials))
 }

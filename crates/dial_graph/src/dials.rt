@@ -1,26 +1,28 @@
 //! The dial graph, its constructor, and its answers to the questions of every graph.
 
-ghost use Rattle.dial_graph.specs.Dials.{held_limits};
-ghost use Rattle.dial_graph.specs.Made.{Made, meaning_of};
+ghost use Rattle.std.specs.Prelude.{◌≡◌};
+ghost use Rattle.dial_graph.specs.Dials.{CountsFit};
+ghost use Rattle.dial_graph.specs.Lists.{some_of, test_at};
 
 use crate::checks::fitting_sizes;
-use crate::rules::{DialFlag, Rule, some_joins, stands_at};
+use crate::rules::{Dial, DialFlag, Rule};
 use crate::sizes::Sizes;
-use graph::{COMMAND_LIMIT, Command, FLAG_LIMIT, Flag, Graph, MODE_LIMIT, Mode, Refusal};
+use graph::{Command, Flag, Graph, Mode, Refusal};
 
-/// A graph whose modes are the settings of dials, with lent rules and lent flags.
-///
-/// The constructor refuses what breaks a limit. A value with such fields would still be a graph: its answers hold each size and
-/// each count to its limits, so that they have a meaning whatever the fields are.
+/// A graph whose modes are the settings of dials, with lent rules and lent flags, all within their limits.
 #[derive(Drop)]
 pub struct DialGraph<'a> {
     sizes: Sizes,
     commands: u8,
     rules: &'a [Rule],
     flags: &'a [DialFlag],
+    ghost counts: { CountsFit sizes commands flags.now },
 }
 
 impl<'a> DialGraph<'a> {
+    ghost use Rattle.dial_graph.specs.Dials.{position, rule_joins, flag_shows};
+    ghost use Rattle.dial_graph.specs.Made.{Made};
+
     /// The graph of the dials, whose numbers of positions are given first dial first, with `commands` commands, the rules and
     /// the flags. Refused are: dials that are not 1 to 3; a dial that has not 1 to 8 positions; more than 64 settings; commands
     /// that are not 1 to 16; more than 32 rules or 16 flags; a rule whose command, guard dial or moved dial is not there, or
@@ -33,54 +35,71 @@ impl<'a> DialGraph<'a> {
     ) -> Result<DialGraph<'a>, Refusal>
         ensures made { Made dials.now commands rules.now flags.now result }
     {
-        match fitting_sizes(dials, commands, rules, flags) {
-            None => Err(Refusal::LimitBroken),
-            Some(sizes) => Ok(DialGraph {
-                sizes,
-                commands,
-                rules,
-                flags,
-            }),
+        let sizes = fitting_sizes(dials, commands, rules, flags)?;
+        Ok(DialGraph {
+            sizes,
+            commands,
+            rules,
+            flags,
+        })
+    }
+
+    // The position of a dial at mode u.
+    pub(crate) fn position(&self, dial: Dial, u: Mode) -> u8
+        ensures answer { result ≡ position self.now.sizes dial u }
+    {
+        let sizes = self.sizes;
+        match dial {
+            0 => u % sizes.first,
+            1 => u / sizes.first % sizes.second,
+            _ => u / (sizes.first * sizes.second),
         }
+    }
+
+    // Whether flag p is there, and stands at mode u.
+    fn stands_at(&self, p: Flag, u: Mode) -> bool
+        ensures answer { result ≡ test_at (flag_shows self.now.sizes u) self.now.flags.now p }
+    {
+        (p as usize) < self.flags.len() && self.flags[p as usize].shows(self, u)
+    }
+
+    // Whether some rule lets command a join mode u to mode v.
+    fn some_joins(&self, a: Command, u: Mode, v: Mode) -> bool
+        ensures answer { result ≡ some_of (rule_joins self.now.sizes a u v) self.now.rules.now }
+    {
+        for rule in self.rules {
+            if rule.joins(self, a, u, v) {
+                return true;
+            }
+        }
+        false
     }
 }
 
 impl<'a> Graph for DialGraph<'a> {
+    ghost use Rattle.dial_graph.specs.Made.{held_limits, meaning_of};
+
     ghost meaning = { λ g. meaning_of g };
 
-    ghost limits = { λ g. held_limits g.sizes g.commands g.rules.now g.flags.now };
+    ghost limits = { λ g. held_limits g };
 
     fn modes(&self) -> u8 {
-        self.sizes.held().settings().min(MODE_LIMIT as u32).max(1) as u8
+        self.sizes.settings() as u8
     }
 
     fn commands(&self) -> u8 {
-        self.commands.min(COMMAND_LIMIT).max(1)
+        self.commands
     }
 
     fn flags(&self) -> u8 {
-        self.flags.len().min(FLAG_LIMIT as usize) as u8
+        self.flags.len() as u8
     }
 
     fn has_flag(&self, p: Flag, u: Mode) -> bool {
-        p < self.flags() && u < self.modes() && stands_at(self.sizes.held(), self.flags, p, u)
+        p < self.flags() && u < self.modes() && self.stands_at(p, u)
     }
 
     fn joins(&self, a: Command, u: Mode, v: Mode) -> bool {
-        a < self.commands()
-            && u < self.modes()
-            && v < self.modes()
-            && some_joins(self.sizes.held(), self.rules, a, u, v)
-    }
-
-    // The body that the interface has for this question, said again.
-    fn next_target(&self, a: Command, u: Mode, start: Mode) -> Option<Mode> {
-        let n = self.modes();
-        for v in start..n {
-            if self.joins(a, u, v) {
-                return Some(v);
-            }
-        }
-        None
+        a < self.commands && u < self.modes() && v < self.modes() && self.some_joins(a, u, v)
     }
 }

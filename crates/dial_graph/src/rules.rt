@@ -1,11 +1,10 @@
 //! Rules that move a dial and flags that stand over a range of a dial: what they are, and what they say of modes.
 
 ghost use Rattle.std.specs.Prelude.{◌≡◌, pos, ◌+ℤ◌, Decides};
-ghost use Rattle.dial_graph.specs.Dials.{SizesFit, dial_follows, flag_shows, moved_by, rule_joins};
-ghost use Rattle.dial_graph.specs.Lists.{some_of, test_at};
+ghost use Rattle.dial_graph.specs.Dials.{dial_follows, flag_shows, moved_by, rule_joins};
 
-use crate::sizes::Sizes;
-use graph::{Command, Flag, Mode};
+use crate::dials::DialGraph;
+use graph::{Command, Mode};
 
 /// The greatest number of rules of a dial graph.
 pub const RULE_LIMIT: usize = 32;
@@ -54,63 +53,43 @@ fn is_moved(step: i8, x: u8, y: u8) -> bool
     i16::from(y) == i16::from(x) + i16::from(step)
 }
 
-// Whether a dial goes from u to v as the rule says: moved by the step if it is the moved dial, and left where it is if not.
-fn dial_follows(sizes: Sizes, rule: &Rule, dial: Dial, u: Mode, v: Mode) -> bool
-    requires { SizesFit sizes }
-    ensures answer { result ≡ dial_follows sizes rule.now dial u v }
-{
-    let x = sizes.position(dial, u);
-    let y = sizes.position(dial, v);
-    if dial == rule.moved {
-        is_moved(rule.step, x, y)
-    } else {
-        x == y
-    }
-}
-
-// Whether the rule lets command a join mode u to mode v.
-fn joins_by(sizes: Sizes, rule: &Rule, a: Command, u: Mode, v: Mode) -> bool
-    requires { SizesFit sizes }
-    ensures answer { result ≡ rule_joins sizes a u v rule.now }
-{
-    match sizes.position(rule.guard, u) {
-        x if rule.command == a && rule.low <= x && x <= rule.high => {
-            dial_follows(sizes, rule, 0, u, v)
-                && dial_follows(sizes, rule, 1, u, v)
-                && dial_follows(sizes, rule, 2, u, v)
-        }
-        _ => false,
-    }
-}
-
-// Whether some rule lets command a join mode u to mode v.
-pub(crate) fn some_joins(sizes: Sizes, rules: &[Rule], a: Command, u: Mode, v: Mode) -> bool
-    requires { SizesFit sizes }
-    ensures answer { result ≡ some_of (rule_joins sizes a u v) rules.now }
-{
-    for rule in rules {
-        if joins_by(sizes, rule, a, u, v) {
-            return true;
+impl Rule {
+    // Whether a dial goes from u to v as the rule says: moved by the step if it is the moved dial, and left where it is if not.
+    fn dial_follows(&self, graph: &DialGraph, dial: Dial, u: Mode, v: Mode) -> bool
+        ensures answer { result ≡ dial_follows graph.now.sizes self.now dial u v }
+    {
+        let x = graph.position(dial, u);
+        let y = graph.position(dial, v);
+        if dial == self.moved {
+            is_moved(self.step, x, y)
+        } else {
+            x == y
         }
     }
-    false
-}
 
-// Whether the flag's dial is in its range at mode u.
-fn shows(sizes: Sizes, flag: &DialFlag, u: Mode) -> bool
-    requires { SizesFit sizes }
-    ensures answer { result ≡ flag_shows sizes u flag.now }
-{
-    match sizes.position(flag.dial, u) {
-        x if flag.low <= x && x <= flag.high => true,
-        _ => false,
+    // Whether the rule lets command a join mode u to mode v.
+    pub(crate) fn joins(&self, graph: &DialGraph, a: Command, u: Mode, v: Mode) -> bool
+        ensures answer { result ≡ rule_joins graph.now.sizes a u v self.now }
+    {
+        match graph.position(self.guard, u) {
+            x if self.command == a && self.low <= x && x <= self.high => {
+                self.dial_follows(graph, 0, u, v)
+                    && self.dial_follows(graph, 1, u, v)
+                    && self.dial_follows(graph, 2, u, v)
+            }
+            _ => false,
+        }
     }
 }
 
-// Whether flag p is there, and stands at mode u.
-pub(crate) fn stands_at(sizes: Sizes, flags: &[DialFlag], p: Flag, u: Mode) -> bool
-    requires { SizesFit sizes }
-    ensures answer { result ≡ test_at (flag_shows sizes u) flags.now p }
-{
-    (p as usize) < flags.len() && shows(sizes, &flags[p as usize], u)
+impl DialFlag {
+    // Whether the flag's dial is in its range at mode u.
+    pub(crate) fn shows(&self, graph: &DialGraph, u: Mode) -> bool
+        ensures answer { result ≡ flag_shows graph.now.sizes u self.now }
+    {
+        match graph.position(self.dial, u) {
+            x if self.low <= x && x <= self.high => true,
+            _ => false,
+        }
+    }
 }

@@ -1,10 +1,7 @@
-//! How many positions the dials have, and the position of each dial at a mode.
+//! How many positions the dials have.
 
 ghost use Rattle.std.specs.Prelude.{◌≡◌, Decides, slice_index_or};
-ghost use Rattle.dial_graph.specs.Dials.{SizesFit, held_sizes, position, settings, sizes_of};
-
-use crate::rules::Dial;
-use graph::Mode;
+ghost use Rattle.dial_graph.specs.Dials.{SizesFit, settings, sizes_of};
 
 /// The greatest number of dials.
 pub const DIAL_LIMIT: usize = 3;
@@ -14,16 +11,16 @@ pub const POSITION_LIMIT: u8 = 8;
 // How many positions each of three dials has; a dial that is missing counts as one of 1 position.
 #[derive(Clone, Copy)]
 pub(crate) struct Sizes {
-    first: u8,
-    second: u8,
-    third: u8,
+    pub first: u8,
+    pub second: u8,
+    pub third: u8,
 }
 
 // How many positions dial i has, and 1 where it is missing.
 fn size(dials: &[u8], i: usize) -> u8
     ensures answer { result ≡ slice_index_or dials.now i 1 }
 {
-    if i < dials.len() { dials[i] } else { 1 }
+    dials.get(i).copied().unwrap_or(1)
 }
 
 impl Sizes {
@@ -50,34 +47,10 @@ impl Sizes {
             && self.third <= POSITION_LIMIT
     }
 
-    // The sizes, each held to 1 to 8.
-    pub(crate) fn held(self) -> Sizes
-        ensures answer { result ≡ held_sizes self }
-        ensures fit { SizesFit result }
-    {
-        Sizes {
-            first: self.first.min(POSITION_LIMIT).max(1),
-            second: self.second.min(POSITION_LIMIT).max(1),
-            third: self.third.min(POSITION_LIMIT).max(1),
-        }
-    }
-
     // How many settings the dials have.
     pub(crate) fn settings(self) -> u32
         ensures answer { result ≡ settings self }
     {
         self.first as u32 * self.second as u32 * self.third as u32
-    }
-
-    // The position of a dial at mode u.
-    pub(crate) fn position(self, dial: Dial, u: Mode) -> u8
-        requires { SizesFit self }
-        ensures answer { result ≡ position self dial u }
-    {
-        match dial {
-            0 => u % self.first,
-            1 => u / self.first % self.second,
-            _ => u / (self.first * self.second),
-        }
     }
 }

@@ -7,9 +7,9 @@ ghost use Rattle.graph.specs.Refusals.{refusal_number};
 #[derive(Clone, Copy, PartialEq, Eq, Debug)]
 pub enum Refusal {
     /// The memory that was handed is shorter than what is read from it needs.
-    MemoryShort,
+    MemoryShort = 9,
     /// A limit is broken, or a dial or a command that is named is not there.
-    LimitBroken,
+    LimitBroken = 16,
 }
 
 impl Refusal {
@@ -17,9 +17,6 @@ impl Refusal {
     pub fn number(self) -> u8
         ensures answer { result ≡ refusal_number self }
     {
-        match self {
-            Refusal::MemoryShort => 9,
-            Refusal::LimitBroken => 16,
-        }
+        self as u8
     }
 }

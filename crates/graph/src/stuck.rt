@@ -16,12 +16,7 @@ pub fn is_stuck<G: Graph>(g: &G, u: Mode) -> bool
 fn all_stay<G: Graph>(g: &G, u: Mode) -> bool
     ensures exactly { Decides result ((a : ℕ) → Stays (G.meaning g.now) a u) }
 {
-    for a in 0..g.commands() {
-        if !stays(g, a, u) {
-            return false;
-        }
-    }
-    true
+    (0..g.commands()).all(|a| stays(g, a, u))
 }
 
 // Whether command a leads from u nowhere but back to u. Where u is its lowest target, the question is whether it has a second.

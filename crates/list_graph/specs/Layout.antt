@@ -1,17 +1,10 @@
 -- Where in a table of bytes each flag and each arc has its bit, and what setting one changes.
-use Rattle.std.specs.Prelude.{ℕ, ◌+◌, ◌*◌, ◌/◌, ◌%◌, ◌^◌, Bool, List, ◌==◌, bit_or, slice_index, slice_set}
+use Rattle.std.specs.Prelude.{ℕ, ◌+◌, ◌*◌, ◌/◌, ◌%◌, Bool, List}
+use Rattle.sets.specs.Sets.{bit, with_bit}
 
 -- the bytes of a whole table: 16 flags of 8 bytes, and then 16 commands of 64 modes of 8 bytes
 abbrev pub table_bytes : ℕ
 table_bytes = 8320
-
--- bit k of byte i is set, where bit 0 is the lowest; past the end no bit is
-unfoldable pub bit : List ℕ → ℕ → ℕ → Bool
-bit bytes i k = slice_index bytes i / 2 ^ k % 2 == 1
-
--- the bytes with bit k of byte i set; past the end nothing changes
-unfoldable pub with_bit : List ℕ → ℕ → ℕ → List ℕ
-with_bit bytes i k = slice_set bytes i (bit_or (slice_index bytes i) (2 ^ k))
 
 -- the byte that has the bit of flag p at mode u
 abbrev pub flag_byte : ℕ → ℕ → ℕ

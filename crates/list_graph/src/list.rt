@@ -1,24 +1,23 @@
 //! The list graph, its constructor, and its answers to the questions of every graph.
 
-ghost use Rattle.list_graph.specs.Lists.{held_limits};
-ghost use Rattle.list_graph.specs.Made.{Made, meaning_of};
+ghost use Rattle.list_graph.specs.Lists.{CountsFit};
 
 use crate::layout::{TABLE_BYTES, arc_stands, flag_stands};
 use graph::{COMMAND_LIMIT, Command, FLAG_LIMIT, Flag, Graph, MODE_LIMIT, Mode, Refusal};
 
-/// A graph of modes over the bytes of a table.
-///
-/// The constructor refuses counts outside of their limits. A value with such counts would still be a graph: its answers hold
-/// each count to its limits, so that they have a meaning whatever the fields are.
+/// A graph of modes over the bytes of a table, with counts that are within their limits.
 #[derive(Drop)]
 pub struct ListGraph<'a> {
     bytes: &'a [u8],
     modes: u8,
     commands: u8,
     flags: u8,
+    ghost counts: { CountsFit modes commands flags },
 }
 
 impl<'a> ListGraph<'a> {
+    ghost use Rattle.list_graph.specs.Made.{Made};
+
     /// The graph of `modes` modes, `commands` commands and `flags` flags that the bytes mean. Bytes that are no whole table are
     /// refused first, and then counts outside of their limits.
     pub fn new(
@@ -50,41 +49,29 @@ impl<'a> ListGraph<'a> {
 }
 
 impl<'a> Graph for ListGraph<'a> {
+    ghost use Rattle.list_graph.specs.Made.{held_limits, meaning_of};
+
     ghost meaning = { λ g. meaning_of g };
 
-    ghost limits = { λ g. held_limits g.bytes.now g.modes g.commands g.flags };
+    ghost limits = { λ g. held_limits g };
 
     fn modes(&self) -> u8 {
-        self.modes.min(MODE_LIMIT).max(1)
+        self.modes
     }
 
     fn commands(&self) -> u8 {
-        self.commands.min(COMMAND_LIMIT).max(1)
+        self.commands
     }
 
     fn flags(&self) -> u8 {
-        self.flags.min(FLAG_LIMIT)
+        self.flags
     }
 
     fn has_flag(&self, p: Flag, u: Mode) -> bool {
-        p < self.flags() && u < self.modes() && flag_stands(self.bytes, p, u)
+        p < self.flags && u < self.modes && flag_stands(self.bytes, p, u)
     }
 
     fn joins(&self, a: Command, u: Mode, v: Mode) -> bool {
-        a < self.commands()
-            && u < self.modes()
-            && v < self.modes()
-            && arc_stands(self.bytes, a, u, v)
-    }
-
-    // The body that the interface has for this question, said again.
-    fn next_target(&self, a: Command, u: Mode, start: Mode) -> Option<Mode> {
-        let n = self.modes();
-        for v in start..n {
-            if self.joins(a, u, v) {
-                return Some(v);
-            }
-        }
-        None
+        a < self.commands && u < self.modes && v < self.modes && arc_stands(self.bytes, a, u, v)
     }
 }

@@ -1,11 +1,13 @@
 -- The bytes of a table say exactly the entries that were set in them.
-use Rattle.std.proofs.Common.{◌≡◌, ℕ, ◌/◌, ◌%◌, ◌^◌, ◌<◌, ◌≤◌, Bool, true, false, ◌&&◌, eqb, ◌⊎◌, List, [], ◌∷◌, ◌++◌, length, Decides, sym, refl, ap, ◌∙◌, inl, inr, ⊎_elim, arith}
+use Rattle.std.proofs.Common.{◌≡◌, ℕ, ◌%◌, ◌<◌, ◌≤◌, Bool, true, false, ◌&&◌, eqb, ◌⊎◌, List, [], ◌∷◌, ◌++◌, length, Decides, sym, refl, ◌∙◌, inl, inr, ⊎_elim, arith}
 use mathlib.Core.Bool.{false≢true}
 use lib.ListN.{length-replicate}
 use Rattle.std.proofs.lemmas.List.{get_or_append_left, get_or-replicate}
 use Rattle.std.proofs.lemmas.Bool.{or_cases, or_left, or_right, and_parts, and_from, eqb-true, eq-eqb}
-use Rattle.list_graph.specs.Layout.{bit, flag_bit, arc_bit, flag_byte, arc_byte}
-use Rattle.list_graph.proofs.Bits.{bit_zero, flag_bit_marked, arc_bit_marked, flag_bit_joined, arc_bit_joined, length_marked, length_joined}
+use Rattle.sets.specs.Sets.{bit}
+use Rattle.sets.proofs.Bits.{bit_zero, bit_same_byte}
+use Rattle.list_graph.specs.Layout.{flag_bit, arc_bit, flag_byte, arc_byte}
+use Rattle.list_graph.proofs.Bits.{flag_bit_marked, arc_bit_marked, flag_bit_joined, arc_bit_joined, length_marked, length_joined}
 use Rattle.list_graph.specs.Lists.{CountsFit}
 use Rattle.std.specs.List.{AllByRecursion}
 use Rattle.table.specs.declared.contents.Counts.{Counts}
@@ -104,8 +106,7 @@ blank_bit i k h = bit_zero blank i k (get_or-replicate 8320 i 0 0 h)
 
 -- what lies behind the table's bytes has no part in what they say
 bit_front : (bytes rest : List ℕ) (i k : ℕ) → i < length bytes → bit (bytes ++ rest) i k ≡ bit bytes i k
-unfolding bit
-bit_front bytes rest i k h = ap (λ (x : ℕ). eqb (x / 2 ^ k % 2) 1) (get_or_append_left bytes rest 0 i h)
+bit_front bytes rest i k h = bit_same_byte (bytes ++ rest) bytes i k (get_or_append_left bytes rest 0 i h)
 
 -- a bit that was not set before, and is read in a longer memory
 decides_set : (b after before : Bool) (P : Type 0) → b ≡ after → before ≡ false → Sets after before P → Decides b P

@@ -1,20 +1,14 @@
--- One more rule was checked; past the last rule all fit.
-use Rattle.std.proofs.ByRecursion.{All-more}
-use Rattle.std.proofs.lemmas.Bool.Decides.{not_from_Decides}
+-- Each rule is asked.
+use Rattle.std.proofs.Common.{rules}
+use Rattle.std.proofs.lemmas.Iterator.{cases_from_all, YieldsList-from_slice}
+use borrow.Author.Tests.{tests}
+use Rattle.graph.proofs.Asked.{decides_each}
 use Rattle.dial_graph.specs.Dials.{RuleFits}
-use Rattle.dial_graph.proofs.Lists.{all_done, not_all}
 use Rattle.dial_graph.proofs.checks.rules_fit.Goals as goal
 
-pub returns-then-not-rule_fits : goal.returns-then-not-rule_fits
-returns-then-not-rule_fits c = record {
-  exactly = not_all (RuleFits c.args.count c.args.commands) c.args.rules.now _ _ c.loop-rule-test.true
-      (not_from_Decides _ c.rule_fits.ensures.exactly c.if-not-rule_fits.true);
-}
-
-pub loop-rule-preserved : goal.loop-rule-preserved
-loop-rule-preserved c =
-    All-more (RuleFits c.args.count c.args.commands) c.args.rules.now _ _ c.loop-rule-test.true c.loop-rule.invariant
-    (c.rule_fits.ensures.exactly.0 c.if-not-rule_fits.false)
-
 pub returns : goal.returns
-returns c = record { exactly = all_done _ _ _ c.loop-rule-test.false c.loop-rule.invariant }
+returns c =
+    let P = RuleFits c.args.count c.args.commands in
+    record {
+      exactly = decides_each P c.args.rules.now _ (cases_from_all _ _ _ P (λ r. P r → ⊥) c.all.ensures.ran (YieldsList-from_slice c.args.rules.now (search rules)) (λ r q k. search (rules, tests)) (λ r q k. search (rules, tests)));
+    }
