@@ -1,5 +1,5 @@
 -- One turn of the loop over entries.
-use Rattle.std.proofs.Common.{◌≡◌, ℕ, zero, suc, ◌-◌, ◌<◌, List, ◌∷◌, Some, None, Option, refl, subst, arith}
+use Rattle.std.proofs.Common.{◌≡◌, ℕ, zero, suc, ◌-◌, ◌<◌, List, ◌∷◌, Some, Option, refl, subst, arith}
 use Rattle.words.specs.Numbers.{Refused}
 use Rattle.words.specs.Words.{Reading, Out, good, bad, bind}
 use Rattle.table.specs.declared.contents.Counts.{Counts}
@@ -17,10 +17,6 @@ laid_first e (bad f) bytes = refl
 pub laid_more : (k m : ℕ) (c : Counts) (p q : Reading) (o : Option Entry) (e : Entry) (bytes bytes' : List ℕ) → m < k → good o q ≡ entry_at c p → o ≡ Some e → bytes' ≡ with_entry e bytes → laid (within_entries k c p) bytes ≡ laid (within_entries (k - 1) c q) bytes'
 laid_more zero m c p q o e bytes bytes' lt h is set = absurd (omega arith)
 laid_more (suc k) m c p q o e bytes bytes' lt h is set = rw (less_one, ← h, is, set) (laid_first e (within_entries k c q) bytes)
-
-pub laid_all : (k m : ℕ) (c : Counts) (p q : Reading) (o : Option Entry) (bytes : List ℕ) → m < k → good o q ≡ entry_at c p → o ≡ None → laid (within_entries k c p) bytes ≡ good bytes q
-laid_all zero m c p q o bytes lt h is = absurd (omega arith)
-laid_all (suc k) m c p q o bytes lt h is = rw (← h, is) refl
 
 pub entry_ate : (o : Option Entry) (e : Entry) (after before : ℕ) → o ≡ Some e → entry_eats o after before → after < before
 entry_ate o e after before is h = subst (λ (x : Option Entry). entry_eats x after before) is h
