@@ -32,13 +32,18 @@ number_from_reads {n = n} low end l h r =
     let t = and_from (leb low n) (ltb n end) (le-leb low n l) (lt-ltb n end h) in
     (q, rw (e, t) refl, s)
 
-pub reads_from_number : {p q : Reading} {n : ℕ} {ts : List Tok} (low end : ℕ) → number_in low end p ≡ good n q → Reads q ts → (low ≤ n) × (n < end) × Reads p (number n ∷ ts)
-reads_from_number {p} {q} {n} {ts} low end e r =
+pub number_parts : {p q : Reading} {n : ℕ} (low end : ℕ) → number_in low end p ≡ good n q → (low ≤ n) × (n < end) × ((ts : List Tok) → Reads q ts → Reads p (number n ∷ ts))
+number_parts {p} {q} {n} low end e =
     let (m, s, t, k) = bind_parts (taken numbered p) (λ n q. cond (leb low n.value && ltb n.value end) (good n.value q) (beyond 7 n.place q)) n q e in
     let g = cond_good (leb low m.value && ltb m.value end) m.value n s q _ k in
-    let b = and_parts (leb low m.value) (ltb m.value end) g.0 in
-    let read = reads_from_numbered t (subst (λ (x : Reading). Reads x ts) (sym g.2) r) in
-    (omega (arith, leb-true low m.value b.0, g.1), omega (arith, ltb-true m.value end b.1, g.1), subst (λ (x : ℕ). Reads p (number x ∷ ts)) g.1 read)
+    let b = and_parts (leb low m.value) (ltb m.value end) g.0 in (
+      omega (arith, leb-true low m.value b.0, g.1),
+      omega (arith, ltb-true m.value end b.1, g.1),
+      (λ ts r. subst (λ (x : ℕ). Reads p (number x ∷ ts)) g.1 (reads_from_numbered t (subst (λ (x : Reading). Reads x ts) (sym g.2) r))),
+    )
+
+pub reads_from_number : {p q : Reading} {n : ℕ} {ts : List Tok} (low end : ℕ) → number_in low end p ≡ good n q → Reads q ts → (low ≤ n) × (n < end) × Reads p (number n ∷ ts)
+reads_from_number {ts = ts} low end e r = let (l, h, reads) = number_parts low end e in (l, h, reads ts r)
 
 -- the end of a form and of its line
 pub form_end_from_reads : {p : Reading} {ts : List Tok} {forms : List (List Tok)} → Reads p (closes ∷ ts) → After ts forms → (q : Reading) × (us : List Tok) × (form_end p ≡ good tt q) × Reads q us × Lines us forms

@@ -223,9 +223,6 @@ abbrev LineRead : Counts → Option Entry → Reading → Reading → Type 0
 LineRead c (Some e) p q = (us : List Tok) (forms : List (List Tok)) → Reads q us → Lines us forms → (ts : List Tok) × EntryFits c e × Reads p ts × Lines ts (entry_tokens e ∷ forms)
 LineRead c None p q = (ts : List Tok) × Reads p ts × Lines ts []
 
-some_not_none : {A : Type 0} {x : A} → Some x ≡ None → ⊥
-some_not_none h = let z : ◌≡◌ {A = ℕ} 0 1 = cc in omega arith
-
 entry_line_read : (p : Reading) (c : Counts) (next : Next) (s q : Reading) (o : Option Entry) → next_form p ≡ good next s → entry_line c next s ≡ good o q → LineRead c o p q
 entry_line_read p c (End at) s q o f e = subst (λ (x : Option Entry). LineRead c x p q) (good_value e) (reads_from_end f)
 entry_line_read p c Form s q o f e =

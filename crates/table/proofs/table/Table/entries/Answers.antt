@@ -1,8 +1,30 @@
-use Rattle.std.proofs.Common.{◌-◌, sym, ◌∙◌, arith}
+use Rattle.std.proofs.Common.{◌≡◌, ℕ, zero, suc, ◌-◌, ◌<◌, List, ◌∷◌, Some, Option, sym, refl, ◌∙◌, subst, arith}
 use Rattle.std.proofs.lemmas.Result.{err_from_is_err_and}
-use Rattle.table.specs.Table.{table_reading}
-use Rattle.table.proofs.Turns.{laid_more, laid_bad, entry_ate}
+use Rattle.words.specs.Numbers.{Refused}
+use Rattle.words.specs.Words.{Reading, Out, good, bad, bind}
+use Rattle.table.specs.declared.contents.Counts.{Counts}
+use Rattle.table.specs.declared.contents.Entry.{Entry}
+use Rattle.table.specs.Table.{entry_at, within_entries, laid, with_entry, entry_eats, table_reading}
 use Rattle.table.proofs.table.Table.entries.Goals as goal
+
+less_one : (k : ℕ) → suc k - 1 ≡ k
+less_one k = omega arith
+
+-- an entry before others is set before them
+laid_first : (e : Entry) (more : Out (List Entry)) (bytes : List ℕ) → laid (bind more (λ es q. good (e ∷ es) q)) bytes ≡ laid more (with_entry e bytes)
+laid_first e (good es p) bytes = refl
+laid_first e (bad f) bytes = refl
+
+laid_more : (k m : ℕ) (c : Counts) (p q : Reading) (o : Option Entry) (e : Entry) (bytes bytes' : List ℕ) → m < k → good o q ≡ entry_at c p → o ≡ Some e → bytes' ≡ with_entry e bytes → laid (within_entries k c p) bytes ≡ laid (within_entries (k - 1) c q) bytes'
+laid_more zero m c p q o e bytes bytes' lt h is set = absurd (omega arith)
+laid_more (suc k) m c p q o e bytes bytes' lt h is set = rw (less_one, ← h, is, set) (laid_first e (within_entries k c q) bytes)
+
+entry_ate : (o : Option Entry) (e : Entry) (after before : ℕ) → o ≡ Some e → entry_eats o after before → after < before
+entry_ate o e after before is h = subst (λ (x : Option Entry). entry_eats x after before) is h
+
+laid_bad : (k m : ℕ) (c : Counts) (p : Reading) (f : Refused) (bytes : List ℕ) → m < k → bad f ≡ entry_at c p → laid (within_entries k c p) bytes ≡ bad f
+laid_bad zero m c p f bytes lt h = absurd (omega arith)
+laid_bad (suc k) m c p f bytes lt h = rw (← h) refl
 
 pub returns-in_err-entry : goal.returns-in_err-entry
 returns-in_err-entry c =
