@@ -97,9 +97,9 @@ reads_from_named = reads_from_taken named (λ w. word w.bytes) (elim [ word w �
 -- past the last token there is no line
 lines_none : {ts : List Tok} {forms : List (List Tok)} → Lines ts forms → ts ≡ [] → forms ≡ []
 lines_none no_line e = refl
-lines_none (blank_line _) e = absurd (omega (arith, ap length e))
-lines_none last_form e = absurd (omega (arith, ap length e))
-lines_none (form_line _) e = absurd (omega (arith, ap length e))
+lines_none (blank_line _) e = cc
+lines_none last_form e = cc
+lines_none (form_line _) e = cc
 
 -- the end of a form's line is read where it is spelled
 pub ended_from_reads : {p : Reading} {ts : List Tok} {forms : List (List Tok)} → Reads p ts → After ts forms → (q : Reading) × (us : List Tok) × (taken ended p ≡ good tt q) × Reads q us × Lines us forms

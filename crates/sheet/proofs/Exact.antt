@@ -115,8 +115,8 @@ sheet_made text xs is =
 -- the same rows and claims are those of the same sentences
 sentences_same : (rows : List Row) (xs ys : List Sentence) (a b : List Row) → rows_after xs a ≡ rows → rows_after ys b ≡ rows → claims_after xs a ≡ claims_after ys b → xs ≡ ys
 sentences_same rows [] [] a b e f h = refl
-sentences_same rows [] (y ∷ ys) a b e f h = absurd (omega (arith, ap length h))
-sentences_same rows (x ∷ xs) [] a b e f h = absurd (omega (arith, ap length h))
+sentences_same rows [] (y ∷ ys) a b e f h = cc
+sentences_same rows (x ∷ xs) [] a b e f h = cc
 sentences_same rows (x ∷ xs) (y ∷ ys) a b e f h =
     let c = with_formula x.formula a in
     let d = with_formula y.formula b in
@@ -133,7 +133,7 @@ sentences_same rows (x ∷ xs) (y ∷ ys) a b e f h =
     ∙ ap (λ (z : List Sentence). y ∷ z) rest
 
 accepts_not_refuses : {a b : List Row} {c d : List Claim} {e : Refused} → accepts a c ≡ refuses e b d → ⊥
-accepts_not_refuses h = let z : ◌≡◌ {A = ℕ} 0 1 = cc in omega arith
+accepts_not_refuses h = cc
 
 -- a text that was read is a sheet's
 sheet_read : (text : List ℕ) (rows : List Row) (claims : List Claim) (o : Step (List Claim)) → length text ≤ 32768 → claims_from [] (begun text) ≡ o → accepts rows claims ≡ sheet_over o → SheetRead text rows claims

@@ -82,6 +82,7 @@ impl<'a, 's> Reader<'a, 's> {
     }
 
     // A program, with the rows of its parts before its own; so many brackets may still be opened.
+    // A function beside `formula`, by a rule of the project: readers of formulas and of programs call each other.
     #[cycle(trees)]
     #[tactic(auto, using(crate::proofs::Opens::program_opens))]
     fn program(&mut self, depth: u8) -> Result<RowNumber, Fault>

@@ -93,12 +93,12 @@ table_read text before after c (good t q) short e h =
           (ap (λ (x : Contents). x.counts) (sym same), ap (λ (x : Contents). x.entries) (sym same));
       says = entries_say t.counts is.counts t.entries is.fits (drop 8320 before);
     }))
-table_read text before after c (bad r) short e h = absurd (accepts_not_refuses h)
+table_read text before after c (bad r) short e h = cc
 
 -- an answer that is no refusal came from the text
 accepted : (text before after : List ℕ) (c : Counts) (short_memory long_text : Bool) → ltb (length before) 8320 ≡ short_memory → ltb 32768 (length text) ≡ long_text → accepts c after ≡ answer_by text before (cond short_memory (Some (before_text 1 9)) (cond long_text (Some (before_text 1 10)) None)) → (8320 ≤ length before) × TableRead text c after
-accepted text before after c true l e f h = absurd (accepts_not_refuses h)
-accepted text before after c false true e f h = absurd (accepts_not_refuses h)
+accepted text before after c true l e f h = cc
+accepted text before after c false true e f h = cc
 accepted text before after c false false e f h = (ltb-false (length before) 8320 e, table_read text before after c (contents_at (start text 1)) (ltb-false 32768 (length text) f) refl h)
 
 pub reads_exactly : (text before : List ℕ) (r : Result Counts Fault) (after : List ℕ) → answered r after ≡ table_answer text before → ReadsExactly text before r after

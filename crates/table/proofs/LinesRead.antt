@@ -50,7 +50,7 @@ name_of_key w k e =
     (some_name w (codes "commands") k key.Commands _
     (some_name w (codes "flags") k key.Flags _
     (some_name w (codes "mark") k key.Mark _
-    (some_name w (codes "arc") k key.Arc _ (λ n. absurd (let z : ◌≡◌ {A = ℕ} 0 1 = cc in omega arith)) refl)
+    (some_name w (codes "arc") k key.Arc _ (λ n. cc) refl)
     refl)
     refl)
     refl)

@@ -1,5 +1,5 @@
 -- From the lines of a text to the whole table.
-use Rattle.std.proofs.Common.{◌≡◌, ℕ, ◌≤◌, true, false, List, [], ◌++◌, length, take, drop, replicate, Ok, Err, Result, sym, refl, ap, ◌∙◌, arith}
+use Rattle.std.proofs.Common.{◌≡◌, ℕ, ◌≤◌, true, false, List, [], ◌++◌, length, take, drop, replicate, Ok, Err, Result, sym, refl, ap, ◌∙◌}
 use Rattle.std.proofs.lemmas.List.{take_all}
 use Rattle.std.specs.Result.{is_err}
 use Rattle.std.proofs.lemmas.Bool.{le-ltb, false≢true}
@@ -10,11 +10,11 @@ use Rattle.table.specs.declared.contents.Counts.{Counts}
 use Rattle.table.specs.Table.{accepts, refuses, answered, Contents, blank, contents_at, lines_over, lines_read, table_over, over, table_answer}
 
 pub accepts_not_refuses : {c : Counts} {e : Refused} {m n : List ℕ} → accepts c m ≡ refuses e n → ⊥
-accepts_not_refuses h = let z : ◌≡◌ {A = ℕ} 0 1 = cc in omega arith
+accepts_not_refuses h = cc
 
 over_good : (o : Out Contents) (c : Counts) (m : List ℕ) → accepts c m ≡ lines_over o blank → accepts c m ≡ table_over o
 over_good (good t p) c m h = h
-over_good (bad e) c m h = absurd (accepts_not_refuses h)
+over_good (bad e) c m h = cc
 
 over_bad : (o : Out Contents) (e : Refused) (m : List ℕ) → refuses e [] ≡ lines_over o m → refuses e blank ≡ table_over o
 over_bad (good t p) e m h = absurd (accepts_not_refuses (sym h))

@@ -30,6 +30,7 @@ pub fn read_table(text: &[u8], memory: &mut [u8]) -> Result<Counts, Fault>
 }
 
 // Reads a table into its own bytes.
+// No generic function with the sheet's: only the order of the calls is the same, and a trait for them would be longer.
 fn read_into(text: &[u8], bytes: &mut [u8]) -> Result<Counts, Fault>
     requires { (length text.now ≤ text_limit) × (length bytes.old ≡ table_bytes) }
     ensures answer { answered result bytes.new ≡ table_over (contents_at (start text.now 1)) }

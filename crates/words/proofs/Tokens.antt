@@ -50,7 +50,7 @@ by_test false f g e = g refl e
 
 -- a refusal is no result, and a result is one
 not_ok : {t : Tok} {r : Reason} → ◌≡◌ {A = Result Tok Reason} (Err r) (Ok t) → ⊥
-not_ok e = let z : ◌≡◌ {A = ℕ} 0 1 = cc in omega arith
+not_ok e = cc
 
 ok_value : {t u : Tok} → ◌≡◌ {A = Result Tok Reason} (Ok t) (Ok u) → t ≡ u
 ok_value e = cc
@@ -156,7 +156,7 @@ run_from_spells (run_word {run} all some short) =
 
 -- a run and what ends it, read
 run_read : (run bs : List ℕ) (t : Tok) → Full is_ascii_alphanumeric run → run_token run ≡ Ok t → RunEnds bs → (l c x : ℕ) → next_token (at (run ++ bs) l c x) ≡ good (record { tok = t; place = record { line = l; column = c } }) (at bs l (c + length run) x)
-run_read [] bs t full is ends l c x = absurd (not_ok is)
+run_read [] bs t full is ends l c x = cc
 run_read (b ∷ run) bs t full is ends l c x =
     let h = (full_parts is_ascii_alphanumeric b run full).0 in
     let p = at (b ∷ (run ++ bs)) l c x in
@@ -194,11 +194,11 @@ reads_from_spells p s = spelled_at s p.line p.column p.text
 
 -- a number that the program accepts has no needless zero
 no_zero : (a n : ℕ) (t : Tok) → number_token (cond (eqb a 48) None (Some n)) ≡ Ok t → (a ≡ 48 → ⊥) × (number n ≡ t)
-no_zero a n t = cond_both (eqb a 48) None (Some n) (λ o. number_token o ≡ Ok t → (a ≡ 48 → ⊥) × (number n ≡ t)) (λ h e. absurd (not_ok e)) (λ h e. (eqb-false a 48 h, ok_value e))
+no_zero a n t = cond_both (eqb a 48) None (Some n) (λ o. number_token o ≡ Ok t → (a ≡ 48 → ⊥) × (number n ≡ t)) (λ h e. cc) (λ h e. (eqb-false a 48 h, ok_value e))
 
 -- the number that the program takes digits for is what they spell
 number_spelled : (run : List ℕ) (t : Tok) → Full is_ascii_digit run → number_token (number_of run) ≡ Ok t → RunSpells run t
-number_spelled [] t full e = absurd (not_ok e)
+number_spelled [] t full e = cc
 number_spelled (a ∷ []) t full e =
     let f = (full_parts is_ascii_digit a [] full).0 in
     subst (RunSpells (a ∷ [])) (ok_value e) (run_number (one_digit f))
@@ -213,7 +213,7 @@ number_spelled (a ∷ b ∷ c ∷ []) t full e =
     let h = (full_parts is_ascii_digit c [] last).0 in
     let (real, same) = no_zero a _ t e in
     subst (RunSpells (a ∷ b ∷ c ∷ [])) same (run_number (three_digits f g h real))
-number_spelled (a ∷ b ∷ c ∷ d ∷ run) t full e = absurd (not_ok e)
+number_spelled (a ∷ b ∷ c ∷ d ∷ run) t full e = cc
 
 -- a run whose bytes are all letters is of letters alone
 letters_full : (run : List ℕ) → Full is_ascii_alphabetic run → Letters run
@@ -227,11 +227,11 @@ word_spelled : (run : List ℕ) (t : Tok) → 1 ≤ length run → cond (leb (le
 word_spelled run t some =
     by_test (leb (length run) 8 && list_all is_ascii_alphabetic run)
     (λ h e. let (s, f) = and_parts (leb (length run) 8) (list_all is_ascii_alphabetic run) h in subst (RunSpells run) (ok_value e) (run_word (letters_full run f) some (leb-true (length run) 8 s)))
-    (λ h e. absurd (not_ok e))
+    (λ h e. cc)
 
 -- the token that the program takes a run for is what the run spells
 run_spelled : (run : List ℕ) (t : Tok) → run_token run ≡ Ok t → RunSpells run t
-run_spelled [] t e = absurd (not_ok e)
+run_spelled [] t e = cc
 run_spelled (b ∷ run) t e =
     by_test (list_all is_ascii_digit (b ∷ run))
     (λ h e. number_spelled (b ∷ run) t h e)
@@ -338,10 +338,10 @@ text_end_stays p q e =
 -- no byte spells no token
 spells_none : {bs : List ℕ} {ts : List Tok} → Spells bs ts → bs ≡ [] → ts ≡ []
 spells_none spells_nothing e = refl
-spells_none (spells_space _) e = absurd (omega (arith, ap length e))
-spells_none (spells_line_end _) e = absurd (omega (arith, ap length e))
-spells_none (spells_opens _) e = absurd (omega (arith, ap length e))
-spells_none (spells_closes _) e = absurd (omega (arith, ap length e))
+spells_none (spells_space _) e = cc
+spells_none (spells_line_end _) e = cc
+spells_none (spells_opens _) e = cc
+spells_none (spells_closes _) e = cc
 spells_none (spells_run {run} {bs} r _ _) e = absurd (omega (arith, run_some r, ap length e, length-append run bs))
 
 -- from where no byte is left no token is read

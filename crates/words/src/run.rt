@@ -49,6 +49,7 @@ fn digit(b: u8) -> u16
 }
 
 // The number that a run of digits writes, if it is one.
+// Not `parse`, which takes a sign and needless zeros, and wants a `str`.
 fn number(run: &[u8]) -> Option<u16>
     ensures answer { result ≡ number_of run.now }
 {

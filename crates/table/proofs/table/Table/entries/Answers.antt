@@ -1,4 +1,4 @@
-use Rattle.std.proofs.Common.{◌≡◌, ℕ, zero, suc, ◌-◌, ◌<◌, List, ◌∷◌, Some, Option, sym, refl, ◌∙◌, subst, arith}
+use Rattle.std.proofs.Common.{◌≡◌, ℕ, zero, suc, ◌-◌, ◌<◌, List, ◌∷◌, Some, None, Option, sym, refl, ◌∙◌, subst, arith}
 use Rattle.std.proofs.lemmas.Result.{err_from_is_err_and}
 use Rattle.words.specs.Numbers.{Refused}
 use Rattle.words.specs.Words.{Reading, Out, good, bad, bind}
@@ -18,6 +18,10 @@ laid_first e (bad f) bytes = refl
 laid_more : (k m : ℕ) (c : Counts) (p q : Reading) (o : Option Entry) (e : Entry) (bytes bytes' : List ℕ) → m < k → good o q ≡ entry_at c p → o ≡ Some e → bytes' ≡ with_entry e bytes → laid (within_entries k c p) bytes ≡ laid (within_entries (k - 1) c q) bytes'
 laid_more zero m c p q o e bytes bytes' lt h is set = absurd (omega arith)
 laid_more (suc k) m c p q o e bytes bytes' lt h is set = rw (less_one, ← h, is, set) (laid_first e (within_entries k c q) bytes)
+
+laid_all : (k m : ℕ) (c : Counts) (p q : Reading) (o : Option Entry) (bytes : List ℕ) → m < k → good o q ≡ entry_at c p → o ≡ None → laid (within_entries k c p) bytes ≡ good bytes q
+laid_all zero m c p q o bytes lt h is = absurd (omega arith)
+laid_all (suc k) m c p q o bytes lt h is = rw (← h, is) refl
 
 entry_ate : (o : Option Entry) (e : Entry) (after before : ℕ) → o ≡ Some e → entry_eats o after before → after < before
 entry_ate o e after before is h = subst (λ (x : Option Entry). entry_eats x after before) is h
@@ -40,3 +44,8 @@ loop-entry-preserved c =
       i.1 ∙ laid_more i.0 _ c.args.counts (table_reading c.loop-entry.self) (table_reading c.entry.new.self) _ _ c.loop-entry.bytes _ i.2 r.reads c.in-Some.is c.set_in.ensures.memory,
       omega (arith, i.2, entry_ate _ _ _ _ c.in-Some.is r.eats),
     )
+
+pub returns : goal.returns
+returns c =
+    let i = c.loop-entry.invariant in
+    record { memory = sym (i.1 ∙ laid_all i.0 _ c.args.counts (table_reading c.loop-entry.self) (table_reading c.entry.new.self) _ c.loop-entry.bytes i.2 c.in_ok-entry.ensures.reads c.in_default.is) }
