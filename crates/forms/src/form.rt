@@ -37,7 +37,7 @@ pub enum Item<'a> {
 }
 
 /// Whether two words have the same letters.
-// Not `==` at the callers, which compares no slice with the array that a word like b"all" is.
+// Not `==` at the callers: there a word such as b"all" would need `.as_slice()`.
 pub fn same_word(a: &[u8], b: &[u8]) -> bool
     ensures answer { result ≡ bytes_eq a.now b.now }
 {
