@@ -2,8 +2,7 @@
 
 ghost use Rattle.bar.specs.Barred.{CanBar, Ground, barred, barred_limits, listed};
 ghost use Rattle.graph.specs.Refusals.{refusal_number};
-ghost use Rattle.std.specs.Prelude.{◌≡◌, ◌<◌, Decides, MatchResult};
-ghost use Rattle.std.specs.List.{AllByRecursion};
+ghost use Rattle.std.specs.Prelude.{◌≡◌, Decides, MatchResult};
 
 use graph::{Command, Flag, Graph, Mode, Refusal};
 
@@ -31,19 +30,8 @@ impl<'a, G: Graph + Drop> Bar<'a, G> {
 fn can_bar<G: Graph>(graph: &G, commands: &[Command]) -> bool
     ensures exactly { Decides result (CanBar commands.now (G.meaning graph.now)) }
 {
-    all_below(commands, graph.commands())
-}
-
-// Whether each command is below the count.
-fn all_below(commands: &[Command], count: u8) -> bool
-    ensures exactly { Decides result (AllByRecursion (λ a. a < count) commands.now) }
-{
-    for a in commands {
-        if *a >= count {
-            return false;
-        }
-    }
-    true
+    let count = graph.commands();
+    commands.iter().all(|a| *a < count)
 }
 
 // Whether the command is in the list.

@@ -1,6 +1,6 @@
 //! The check that a sheet fits a graph: row by row, and then claim by claim.
 
-ghost use Rattle.std.specs.Prelude.{ℕ, ◌<◌, ◌≤◌, length, Decides, slice_index_or};
+ghost use Rattle.std.specs.Prelude.{ℕ, ◌<◌, length, Decides, slice_index_or};
 ghost use Rattle.fit.specs.Fit.{ClaimThere, Fits, NamedThere, ScopeThere};
 ghost use Rattle.logic.specs.Rows.{FormulaBefore, Orderly, PartsBefore, ProgramBefore};
 ghost use Rattle.logic.specs.Sheets.{sheet_claims, sheet_rows};
@@ -26,60 +26,52 @@ fn is_orderly(rows: &[Row]) -> bool
     ensures exactly { Decides result (Orderly rows.now) }
 {
     for (i, row) in rows.iter().enumerate() {
-        if !parts_before(rows, i, *row) {
+        if !parts_before(&rows[..i], *row) {
             return false;
         }
     }
     true
 }
 
-// Whether the parts of a row that stands at place i are rows before it, each of the right sort.
-fn parts_before(rows: &[Row], i: usize, row: Row) -> bool
-    requires there { i ≤ length rows.now }
-    ensures exactly { Decides result (PartsBefore rows.now i row) }
+// Whether the parts of a row that is put after these rows are among them, each of the right sort.
+fn parts_before(before: &[Row], row: Row) -> bool
+    ensures exactly { Decides result (PartsBefore before.now (length before.now) row) }
 {
     match row {
         Row::Never | Row::Flag(_) | Row::Command(_) => true,
-        Row::Not(j) | Row::Test(j) => formula_before(rows, i, j),
+        Row::Not(j) | Row::Test(j) => formula_before(before, j),
         Row::Both(j, k) | Row::Either(j, k) | Row::Implies(j, k) => {
-            formula_before(rows, i, j) && formula_before(rows, i, k)
+            formula_before(before, j) && formula_before(before, k)
         }
         Row::Box(j, k) | Row::Diamond(j, k) => {
-            program_before(rows, i, j) && formula_before(rows, i, k)
+            program_before(before, j) && formula_before(before, k)
         }
         Row::Sequence(j, k) | Row::Choice(j, k) => {
-            program_before(rows, i, j) && program_before(rows, i, k)
+            program_before(before, j) && program_before(before, k)
         }
-        Row::Repetition(j) | Row::Converse(j) => program_before(rows, i, j),
+        Row::Repetition(j) | Row::Converse(j) => program_before(before, j),
     }
 }
 
-// Whether row j stands before place i, and is a formula. Up to place i there are rows, so that row j can be read.
-fn formula_before(rows: &[Row], i: usize, j: RowNumber) -> bool
-    requires there { i ≤ length rows.now }
-    ensures exactly { Decides result (FormulaBefore rows.now i j) }
+// Whether row j is among these rows, and is a formula.
+fn formula_before(before: &[Row], j: RowNumber) -> bool
+    ensures exactly { Decides result (FormulaBefore before.now (length before.now) j) }
 {
-    (j as usize) < i && rows[j as usize].is_formula()
+    before.get(j as usize).is_some_and(|row| row.is_formula())
 }
 
-// Whether row j stands before place i, and is a program.
-fn program_before(rows: &[Row], i: usize, j: RowNumber) -> bool
-    requires there { i ≤ length rows.now }
-    ensures exactly { Decides result (ProgramBefore rows.now i j) }
+// Whether row j is among these rows, and is a program.
+fn program_before(before: &[Row], j: RowNumber) -> bool
+    ensures exactly { Decides result (ProgramBefore before.now (length before.now) j) }
 {
-    (j as usize) < i && !rows[j as usize].is_formula()
+    before.get(j as usize).is_some_and(|row| !row.is_formula())
 }
 
 // Whether the graph has what each row names.
 fn all_named_there<G: Graph>(graph: &G, rows: &[Row]) -> bool
     ensures exactly { Decides result ((i : ℕ) → i < length rows.now → NamedThere (G.meaning graph.now) (slice_index_or rows.now i Never)) }
 {
-    for row in rows {
-        if !named_there(graph, *row) {
-            return false;
-        }
-    }
-    true
+    rows.iter().all(|row| named_there(graph, *row))
 }
 
 // Whether the graph has the flag or the command that the row names. Other rows name nothing of the graph.
@@ -97,20 +89,16 @@ fn named_there<G: Graph>(graph: &G, row: Row) -> bool
 fn all_claims_there<G: Graph>(graph: &G, rows: &[Row], claims: &[Claim]) -> bool
     ensures exactly { Decides result (AllByRecursion (ClaimThere (G.meaning graph.now) rows.now) claims.now) }
 {
-    for claim in claims {
-        if !claim_there(graph, rows, *claim) {
-            return false;
-        }
-    }
-    true
+    claims.iter().all(|claim| claim_there(graph, rows, *claim))
 }
 
 // Whether the claim is of a formula among the rows, at modes that the graph has.
 fn claim_there<G: Graph>(graph: &G, rows: &[Row], claim: Claim) -> bool
     ensures exactly { Decides result (ClaimThere (G.meaning graph.now) rows.now claim) }
 {
-    let i = claim.row as usize;
-    i < rows.len() && rows[i].is_formula() && scope_there(graph, claim.scope)
+    rows.get(claim.row as usize)
+        .is_some_and(|row| row.is_formula())
+        && scope_there(graph, claim.scope)
 }
 
 // Whether the graph has the mode that is named, if one is.

@@ -2,3 +2,4 @@
 pub mod Meaning
 pub mod Stuck
 pub mod Refusals
+pub mod Targets

@@ -6,11 +6,14 @@ ghost use Rattle.graph.specs.Meaning.{Meaning, Limits, Lowest};
 
 mod refusal;
 mod stuck;
+mod targets;
 
 /// Why a graph cannot be made, and how such grounds are compared and printed.
 pub use refusal::Refusal;
 /// Whether a mode can be left.
 pub use stuck::is_stuck;
+/// The targets of a command, one after the other.
+pub use targets::{Targets, targets_of};
 
 /// The greatest number of modes of a graph.
 pub const MODE_LIMIT: u8 = 64;

@@ -1,7 +1,10 @@
 //! Why a graph cannot be made, and the number of each ground.
 
-ghost use Rattle.std.specs.Prelude.{◌≡◌};
-ghost use Rattle.graph.specs.Refusals.{refusal_number};
+ghost use Rattle.std.specs.Prelude.{◌≡◌, Some};
+ghost use Rattle.graph.specs.Refusals.{refusal_number, refusal_text};
+
+use std::error::Error;
+use std::fmt;
 
 /// The ground on which a graph is refused.
 #[derive(Clone, Copy, PartialEq, Eq, Debug)]
@@ -20,3 +23,18 @@ impl Refusal {
         self as u8
     }
 }
+
+impl fmt::Display for Refusal {
+    ghost output = { λ refusal. Some (refusal_text refusal) };
+
+    fn fmt<W: fmt::Write>(&self, f: &mut fmt::Formatter<W>) -> fmt::Result {
+        match self {
+            Refusal::MemoryShort => write!(f, "the memory is too short"),
+            Refusal::LimitBroken => {
+                write!(f, "a limit is broken, or a dial or a command is not there")
+            }
+        }
+    }
+}
+
+impl Error for Refusal {}

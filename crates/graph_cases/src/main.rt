@@ -1,13 +1,12 @@
 //! Prints the worked cases of the graphs, and surveys graphs that lie over each other.
 #![tactic(auto)]
 
-use anyhow::anyhow;
 use bar::Bar;
 use dial_graph::{DialFlag, DialGraph, Rule};
-use graph::{Command, Graph, Mode, Refusal, is_stuck};
+use graph::{Command, Graph, Mode, Refusal, is_stuck, targets_of};
 use latch::Latch;
-use list_graph::{ListGraph, TABLE_BYTES, set_arc, set_flag};
-use worked_cases::models;
+use list_graph::{ListGraph, TABLE_BYTES};
+use worked_cases::{models, write_model_s};
 
 fn main(rt: HostRuntime) -> anyhow::Result<()> {
     let proved = models();
@@ -18,28 +17,11 @@ fn main(rt: HostRuntime) -> anyhow::Result<()> {
     refused(rt)
 }
 
-// Model S: three modes, two commands, two flags.
-fn write_s(bytes: &mut [u8]) {
-    set_flag(bytes, 0, 0);
-    set_flag(bytes, 0, 2);
-    set_flag(bytes, 1, 1);
-    set_flag(bytes, 1, 2);
-    set_arc(bytes, 0, 0, 0);
-    set_arc(bytes, 0, 0, 1);
-    set_arc(bytes, 1, 0, 2);
-    set_arc(bytes, 1, 1, 1);
-    set_arc(bytes, 1, 2, 1);
-}
-
 fn latch_on_s(rt: HostRuntime) -> anyhow::Result<()> {
     let mut bytes = vec![in rt.alloc(); 0u8; TABLE_BYTES]?;
-    write_s(&mut bytes);
-    let Ok(s) = ListGraph::new(&bytes, 3, 2, 2) else {
-        return Err(anyhow!("model S is refused"));
-    };
-    let Ok(latched) = Latch::new(s, 1) else {
-        return Err(anyhow!("a latch on model S is refused"));
-    };
+    write_model_s(&mut bytes);
+    let s = ListGraph::new(&bytes, 3, 2, 2)?;
+    let latched = Latch::new(s, 1)?;
     print_targets(rt, "latch on model S", &latched, 1, 0)?;
     print_targets(rt, "latch on model S", &latched, 1, 3)?;
     print_survey(rt, "latch on model S", &latched)
@@ -54,9 +36,7 @@ fn two_dials(rt: HostRuntime) -> anyhow::Result<()> {
         moved: 0,
         step: -1,
     }];
-    let Ok(dials) = DialGraph::new(&[4, 2], 1, &rules, &[]) else {
-        return Err(anyhow!("two dials are refused"));
-    };
+    let dials = DialGraph::new(&[4, 2], 1, &rules, &[])?;
     print_targets(rt, "dials of 4 and 2", &dials, 0, 6)?;
     print_targets(rt, "dials of 4 and 2", &dials, 0, 4)?;
     print_targets(rt, "dials of 4 and 2", &dials, 0, 2)
@@ -112,45 +92,29 @@ fn power() -> Result<DialGraph<'static>, Refusal> {
 
 // The survey call over graphs that lie over each other, in both orders.
 fn nested(rt: HostRuntime) -> anyhow::Result<()> {
-    let Ok(dials) = power() else {
-        return Err(anyhow!("the power dials are refused"));
-    };
+    let dials = power()?;
     print_survey(rt, "dials", &dials)?;
-    let Ok(barred) = Bar::new(dials, &[0, 3]) else {
-        return Err(anyhow!("the bar is refused"));
-    };
+    let barred = Bar::new(dials, &[0, 3])?;
     print_survey(rt, "bar over dials", &barred)?;
-    let Ok(latched) = Latch::new(barred, 1) else {
-        return Err(anyhow!("the latch is refused"));
-    };
+    let latched = Latch::new(barred, 1)?;
     print_survey(rt, "latch over bar over dials", &latched)?;
-    let Ok(again) = Bar::new(latched, &[2]) else {
-        return Err(anyhow!("the second bar is refused"));
-    };
+    let again = Bar::new(latched, &[2])?;
     print_survey(rt, "bar over latch over bar over dials", &again)
 }
 
 // Each making that is refused, by its number.
 fn refused(rt: HostRuntime) -> anyhow::Result<()> {
-    let Ok(dials) = power() else {
-        return Err(anyhow!("the power dials are refused"));
-    };
     print_refusal(
         rt,
         "a bar of a command that is not there",
-        Bar::new(dials, &[4]).err(),
+        Bar::new(power()?, &[4]).err(),
     )?;
-    let Ok(dials) = power() else {
-        return Err(anyhow!("the power dials are refused"));
-    };
     print_refusal(
         rt,
         "a latch on a command that is not there",
-        Latch::new(dials, 4).err(),
+        Latch::new(power()?, 4).err(),
     )?;
-    let Ok(large) = DialGraph::new(&[8, 8], 1, &[], &[]) else {
-        return Err(anyhow!("the large dials are refused"));
-    };
+    let large = DialGraph::new(&[8, 8], 1, &[], &[])?;
     print_refusal(rt, "a latch over 64 modes", Latch::new(large, 0).err())?;
     print_refusal(
         rt,
@@ -168,10 +132,8 @@ fn print_targets<G: Graph>(
     u: Mode,
 ) -> anyhow::Result<()> {
     print!(rt; "{name}: command {a} leads from {u} to (")?;
-    for v in 0..g.modes() {
-        if g.joins(a, u, v) {
-            print!(rt; " {v}")?;
-        }
+    for v in targets_of(g, a, u) {
+        print!(rt; " {v}")?;
     }
     println!(rt; " )")?;
     Ok(())

@@ -5,9 +5,9 @@ use anyhow::anyhow;
 use graph::Graph;
 use label_table::TABLE_BYTES;
 use labeller::label;
-use lines::{label_line, refusal_line, refused_line};
+use lines::{LabelLine, RefusalLine, RefusedLine};
 use list_graph::ListGraph;
-use logic::{Row, Sheet};
+use logic::Sheet;
 use sheet::read_sheet;
 use std::fs;
 use std::process::ExitCode;
@@ -27,7 +27,10 @@ fn main(rt: HostRuntime) -> anyhow::Result<ExitCode> {
     match read_table(&text, &mut memory) {
         Ok(counts) => label_kit(rt, &memory, counts),
         Err(fault) => {
-            rt.println(refusal_line(rt.alloc(), "modes", fault)?)?;
+            rt.println(RefusalLine {
+                word: "modes",
+                fault,
+            })?;
             Ok(ExitCode::SUCCESS)
         }
     }
@@ -55,27 +58,33 @@ fn label_kit(rt: HostRuntime, memory: &[u8], counts: Counts) -> anyhow::Result<E
     let mut sheet = Sheet::new(rt.alloc())?;
     match read_sheet(&text, &mut sheet) {
         Ok(()) => label_sheet(rt, &graph, &sheet)?,
-        Err(fault) => rt.println(refusal_line(rt.alloc(), "claims", fault)?)?,
+        Err(fault) => rt.println(RefusalLine {
+            word: "claims",
+            fault,
+        })?,
     }
     Ok(ExitCode::SUCCESS)
 }
 
-// Labels the rows of a sheet over any graph, and prints them.
+// Labels the rows of a sheet over any graph, and prints a line for each.
 fn label_sheet<G: Graph>(rt: HostRuntime, graph: &G, sheet: &Sheet) -> anyhow::Result<()> {
-    let mut labels = vec![in rt.alloc(); 0u8; TABLE_BYTES]?;
-    match label(graph, sheet, &mut labels) {
-        Ok(()) => print_labels(rt, sheet.rows(), &labels, graph.modes())?,
-        Err(refusal) => rt.println(refused_line(rt.alloc(), "label", refusal.number())?)?,
-    }
-    Ok(())
-}
-
-// One line for each row.
-fn print_labels(rt: HostRuntime, rows: &[Row], labels: &[u8], n: u8) -> anyhow::Result<()> {
-    let mut r: u8 = 0;
-    for row in rows {
-        rt.println(label_line(rt.alloc(), labels, r, *row, n)?)?;
-        r = r.saturating_add(1);
+    let mut table = vec![in rt.alloc(); 0u8; TABLE_BYTES]?;
+    match label(graph, sheet, &mut table) {
+        Ok(()) => {
+            let modes = graph.modes();
+            for (number, row) in (0..).zip(sheet.rows()) {
+                rt.println(LabelLine {
+                    table: &table,
+                    number,
+                    row: *row,
+                    modes,
+                })?;
+            }
+        }
+        Err(refusal) => rt.println(RefusedLine {
+            word: "label",
+            number: refusal.number(),
+        })?,
     }
     Ok(())
 }

@@ -2,18 +2,18 @@
 //! leaves.
 #![tactic(auto)]
 
-use anyhow::anyhow;
 use bar::Bar;
 use dial_graph::{DialFlag, DialGraph, Rule};
 use graph::Graph;
 use label_table::TABLE_BYTES;
-use labeller::label;
+use labeller::{Refusal, label};
 use latch::Latch;
-use lines::{label_line, refused_line};
+use lines::{LabelLine, RefusedLine};
 use list_graph::{ListGraph, set_arc, set_flag};
 use logic::{Claim, Row, Scope, Sheet};
 use sheet::read_sheet;
 use std::alloc::{AllocError, Global};
+use worked_cases::{write_model_s, write_model_t};
 
 // What every byte of the memory holds before a call.
 const UNTOUCHED: u8 = 0xA5;
@@ -26,40 +26,14 @@ fn main(rt: HostRuntime) -> anyhow::Result<()> {
     over_t(rt)?;
     over_others(rt)?;
     whole_memory(rt)?;
-    refused(rt)?;
+    unfit(rt)?;
     disorderly(rt)
-}
-
-// Model S: three modes, two commands, two flags.
-fn write_s(bytes: &mut [u8]) {
-    set_flag(bytes, 0, 0);
-    set_flag(bytes, 0, 2);
-    set_flag(bytes, 1, 1);
-    set_flag(bytes, 1, 2);
-    set_arc(bytes, 0, 0, 0);
-    set_arc(bytes, 0, 0, 1);
-    set_arc(bytes, 1, 0, 2);
-    set_arc(bytes, 1, 1, 1);
-    set_arc(bytes, 1, 2, 1);
-}
-
-// Model T: four modes, two commands, one flag.
-fn write_t(bytes: &mut [u8]) {
-    set_flag(bytes, 0, 2);
-    set_arc(bytes, 0, 0, 0);
-    set_arc(bytes, 0, 0, 1);
-    set_arc(bytes, 0, 1, 1);
-    set_arc(bytes, 1, 0, 3);
-    set_arc(bytes, 1, 1, 2);
-    set_arc(bytes, 1, 3, 2);
 }
 
 fn over_s(rt: HostRuntime) -> anyhow::Result<()> {
     let mut bytes = vec![in rt.alloc(); 0u8; list_graph::TABLE_BYTES]?;
-    write_s(&mut bytes);
-    let Ok(s) = ListGraph::new(&bytes, 3, 2, 2) else {
-        return Err(anyhow!("model S is refused"));
-    };
+    write_model_s(&mut bytes);
+    let s = ListGraph::new(&bytes, 3, 2, 2)?;
     show(rt, "S", &s, "(claim all (M (s (b (d 0)) (d 1)) (P 1)))")?;
     show(rt, "S", &s, "(claim all (L (d 0) (P 0)))")?;
     show(rt, "S", &s, "(claim all (M (r (d 1)) (P 0)))")?;
@@ -74,10 +48,8 @@ fn over_s(rt: HostRuntime) -> anyhow::Result<()> {
 
 fn over_t(rt: HostRuntime) -> anyhow::Result<()> {
     let mut bytes = vec![in rt.alloc(); 0u8; list_graph::TABLE_BYTES]?;
-    write_t(&mut bytes);
-    let Ok(t) = ListGraph::new(&bytes, 4, 2, 1) else {
-        return Err(anyhow!("model T is refused"));
-    };
+    write_model_t(&mut bytes);
+    let t = ListGraph::new(&bytes, 4, 2, 1)?;
     show(rt, "T", &t, "(claim all (L (s (d 0) (d 1)) (O)))")?;
     show(rt, "T", &t, "(claim all (L (r (d 1)) (O)))")?;
     show(rt, "T", &t, "(claim all (L (b (d 1)) (O)))")?;
@@ -103,26 +75,18 @@ const LAST: [DialFlag; 1] = [DialFlag {
 // The same call over dials, over a latch and over a bar; and over two graphs of one meaning, which leave the same bytes.
 fn over_others(rt: HostRuntime) -> anyhow::Result<()> {
     let text = "(claim all (M (r (d 0)) (P 0)))";
-    let Ok(dials) = DialGraph::new(&[4], 1, &UP, &LAST) else {
-        return Err(anyhow!("the dial is refused"));
-    };
+    let dials = DialGraph::new(&[4], 1, &UP, &LAST)?;
     show(rt, "dial", &dials, text)?;
     let mut bytes = vec![in rt.alloc(); 0u8; list_graph::TABLE_BYTES]?;
     set_flag(&mut bytes, 0, 3);
     set_arc(&mut bytes, 0, 0, 1);
     set_arc(&mut bytes, 0, 1, 2);
     set_arc(&mut bytes, 0, 2, 3);
-    let Ok(list) = ListGraph::new(&bytes, 4, 1, 1) else {
-        return Err(anyhow!("the list is refused"));
-    };
+    let list = ListGraph::new(&bytes, 4, 1, 1)?;
     compare(rt, &dials, &list, text)?;
-    let Ok(latched) = Latch::new(dials, 0) else {
-        return Err(anyhow!("the latch is refused"));
-    };
+    let latched = Latch::new(dials, 0)?;
     show(rt, "latch over dial", &latched, text)?;
-    let Ok(barred) = Bar::new(latched, &[0]) else {
-        return Err(anyhow!("the bar is refused"));
-    };
+    let barred = Bar::new(latched, &[0])?;
     show(rt, "bar over latch over dial", &barred, text)
 }
 
@@ -153,7 +117,7 @@ fn whole_memory(rt: HostRuntime) -> anyhow::Result<()> {
 }
 
 // Sheets that name what the graph lacks: it has 64 modes, two commands and one flag.
-fn refused(rt: HostRuntime) -> anyhow::Result<()> {
+fn unfit(rt: HostRuntime) -> anyhow::Result<()> {
     let len = TABLE_BYTES + BEHIND;
     show_in(rt, "the last flag", "(claim all (P 0))", len)?;
     show_in(rt, "a flag too many", "(claim all (P 1))", len)?;
@@ -197,24 +161,31 @@ fn sheet_of(heap: Global, text: &str) -> Result<Sheet, AllocError> {
 // Every row of a sheet over a graph, by its line.
 fn show<G: Graph>(rt: HostRuntime, name: &str, graph: &G, text: &str) -> anyhow::Result<()> {
     let sheet = sheet_of(rt.alloc(), text)?;
-    let mut labels = vec![in rt.alloc(); UNTOUCHED; TABLE_BYTES]?;
+    let mut table = vec![in rt.alloc(); UNTOUCHED; TABLE_BYTES]?;
     println!(rt; "{name}: {text}")?;
-    match label(graph, &sheet, &mut labels) {
-        Ok(()) => print_labels(rt, sheet.rows(), &labels, graph.modes()),
-        Err(refusal) => {
-            rt.println(refused_line(rt.alloc(), "label", refusal.number())?)?;
-            Ok(())
+    match label(graph, &sheet, &mut table) {
+        Ok(()) => {
+            let modes = graph.modes();
+            for (number, row) in (0..).zip(sheet.rows()) {
+                rt.println(LabelLine {
+                    table: &table,
+                    number,
+                    row: *row,
+                    modes,
+                })?;
+            }
         }
-    }
-}
-
-fn print_labels(rt: HostRuntime, rows: &[Row], labels: &[u8], n: u8) -> anyhow::Result<()> {
-    let mut r: u8 = 0;
-    for row in rows {
-        rt.println(label_line(rt.alloc(), labels, r, *row, n)?)?;
-        r = r.saturating_add(1);
+        Err(refusal) => rt.println(refused(refusal))?,
     }
     Ok(())
+}
+
+// The line of a refusal.
+fn refused(refusal: Refusal) -> RefusedLine<'static> {
+    RefusedLine {
+        word: "label",
+        number: refusal.number(),
+    }
 }
 
 // The answer for a text and a memory of a length.
@@ -226,14 +197,12 @@ fn show_in(rt: HostRuntime, name: &str, text: &str, len: usize) -> anyhow::Resul
 // The answer for a sheet over 64 modes without arcs, and what the memory then holds.
 fn answer(rt: HostRuntime, name: &str, sheet: &Sheet, len: usize) -> anyhow::Result<()> {
     let bytes = vec![in rt.alloc(); 0u8; list_graph::TABLE_BYTES]?;
-    let Ok(graph) = ListGraph::new(&bytes, 64, 2, 1) else {
-        return Err(anyhow!("the graph is refused"));
-    };
+    let graph = ListGraph::new(&bytes, 64, 2, 1)?;
     let mut memory = vec![in rt.alloc(); UNTOUCHED; len]?;
     match label(&graph, sheet, &mut memory) {
         Ok(()) => print!(rt; "{name}: labelled; ")?,
         Err(refusal) => {
-            let line = refused_line(rt.alloc(), "label", refusal.number())?;
+            let line = refused(refusal);
             print!(rt; "{name}: {line}; ")?;
         }
     }
@@ -242,22 +211,23 @@ fn answer(rt: HostRuntime, name: &str, sheet: &Sheet, len: usize) -> anyhow::Res
 
 // How many bits of the table are set, unless it is untouched, and how much of what lies behind it is.
 fn print_memory(rt: HostRuntime, memory: &[u8]) -> anyhow::Result<()> {
-    let mut bits: u32 = 0;
-    let mut touched = false;
-    for byte in memory.iter().take(TABLE_BYTES) {
-        bits = bits.saturating_add(byte.count_ones());
-        touched = touched || *byte != UNTOUCHED;
-    }
-    let mut kept = 0usize;
-    for byte in memory.iter().skip(TABLE_BYTES) {
-        if *byte == UNTOUCHED {
-            kept = kept.saturating_add(1);
-        }
-    }
-    if touched {
-        println!(rt; "{bits} bits set, {kept} bytes behind the table kept")?;
-    } else {
+    let kept = memory
+        .iter()
+        .skip(TABLE_BYTES)
+        .filter(|b| **b == UNTOUCHED)
+        .count();
+    if memory.iter().take(TABLE_BYTES).all(|b| *b == UNTOUCHED) {
         println!(rt; "untouched, {kept} bytes behind the table kept")?;
+    } else {
+        let bits = set_bits(memory);
+        println!(rt; "{bits} bits set, {kept} bytes behind the table kept")?;
     }
     Ok(())
+}
+
+fn set_bits(memory: &[u8]) -> u32 {
+    memory
+        .iter()
+        .take(TABLE_BYTES)
+        .fold(0u32, |n, b| n.saturating_add(b.count_ones()))
 }

@@ -1,5 +1,5 @@
 -- What labelling rows in bytes over a table of bytes answers, and what each answer says.
-use Rattle.std.specs.Prelude.{◌≡◌, ℕ, ◌≤◌, Bool, true, false, ◌⊎◌, List, [], length, Some}
+use Rattle.std.specs.Prelude.{◌≡◌, ℕ, ◌≤◌, ◌⊎◌, List, [], length, Some, Ok, Err, Result}
 use Rattle.graph.specs.Meaning.{Meaning}
 use Rattle.list_graph.specs.Layout.{table_bytes}
 use Rattle.list_graph.specs.Lists.{CountsFit, list_meaning}
@@ -9,6 +9,8 @@ use Rattle.logic.specs.declared.row.Row.{Row}
 use Rattle.labeller.specs.Labelling as labelling
 use Rattle.labeller.specs.Labelling.{Labelled}
 use Rattle.label_export.specs.Packed.{rows_of}
+use Rattle.label_export.specs.declared.refused.Refused.{Refused}
+use Rattle.label_export.specs.declared.refused.Refused.TheVariants.{NotRows}
 
 -- the bytes mean these rows, and a sheet has room for them
 pub record RowsIn (bytes : List ℕ) (rows : List Row) : Type 0 where
@@ -19,10 +21,10 @@ pub record RowsIn (bytes : List ℕ) (rows : List Row) : Type 0 where
 abbrev pub NoRows : List ℕ → Type 0
 NoRows bytes = (rows : List Row) → RowsIn bytes rows → ⊥
 
--- whether the rows that the bytes mean are all in a sheet that had none
-abbrev pub Put : List ℕ → Bool → List Row → Type 0
-Put bytes true rows = RowsIn bytes rows
-Put bytes false rows = NoRows bytes
+-- where all bytes were rows that found room, the rows of a sheet that had none; and on which ground they were not
+abbrev pub Put : List ℕ → Result (Unit {0}) Refused → List Row → Type 0
+Put bytes (Ok done) rows = RowsIn bytes rows
+Put bytes (Err e) rows = (e ≡ NotRows) × NoRows bytes
 
 -- the rows that the bytes mean are labelled over the graph, with no claims beside them
 abbrev pub RowsLabelled : Meaning → List ℕ → List ℕ → List ℕ → Type 0

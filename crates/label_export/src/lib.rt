@@ -3,6 +3,7 @@
 
 mod export;
 mod packed;
+mod refused;
 
 /// Labels rows over a table.
 pub use export::label_rows_over_table;

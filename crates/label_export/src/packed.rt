@@ -5,25 +5,26 @@ ghost use Rattle.label_export.specs.Packed.{row_of};
 ghost use Rattle.logic.specs.Sheets.{sheet_claims, sheet_rows};
 ghost use Rattle.std.specs.Prelude.{◌≡◌, []};
 
+use crate::refused::Refused;
 use logic::{Row, Sheet};
 
-// Puts the rows that the bytes mean into a sheet that has none, and answers whether the bytes are rows and all found room.
-pub(crate) fn put_rows(sheet: &mut Sheet, bytes: &[u8]) -> bool
+// Puts the rows that the bytes mean into a sheet that has none. They are refused where the bytes are no rows, or not all find room.
+pub(crate) fn put_rows(sheet: &mut Sheet, bytes: &[u8]) -> Result<(), Refused>
     requires { sheet_rows sheet.old ≡ [] }
     ensures rows { Put bytes.now result (sheet_rows sheet.new) }
     ensures claims { sheet_claims sheet.new ≡ sheet_claims sheet.old }
 {
     let mut rest = bytes;
     while let [letter, x, y, others @ ..] = rest {
-        let Some(row) = row_of(*letter, *x, *y) else {
-            return false;
-        };
-        if sheet.push_row(row).is_none() {
-            return false;
-        }
+        let row = row_of(*letter, *x, *y).ok_or(Refused::NotRows)?;
+        sheet.push_row(row).ok_or(Refused::NotRows)?;
         rest = others;
     }
-    rest.is_empty()
+    if rest.is_empty() {
+        Ok(())
+    } else {
+        Err(Refused::NotRows)
+    }
 }
 
 // The row of a letter and two numbers, by the letters of a claim sheet.

@@ -9,25 +9,9 @@ use Rattle.logic.specs.declared.row.Row.{Row}
 use Rattle.logic.specs.declared.row.Row.TheVariants.{Never, Flag, Not, Both, Either, Implies, Box, Diamond, Command, Sequence, Choice, Repetition, Converse, Test}
 use Rattle.label_table.specs.Layout.{table_bytes, pair_bit}
 use Rattle.label_table.specs.Entries.{In, Step, PartsBelow, FormulaSays, OneStep, ProgramSays, Entry}
-use Rattle.label_table.specs.Changes.{Only, Clear, TidyBefore, Filled}
+use Rattle.label_table.specs.Changes.{Only, TidyBefore, Filled}
+use Rattle.label_table.specs.Progress.{Done, SoFar}
 use Rattle.label_table.proofs.Changes.{only_bit}
-
--- parts that are before row q are before any later row
-pub parts_later : (q k : ℕ) (row : Row) → q ≤ k → PartsBelow q row → PartsBelow k row
-parts_later q k Never h p = p
-parts_later q k (Flag f) h p = p
-parts_later q k (Not x) h p = omega arith
-parts_later q k (Both x y) h p = omega arith
-parts_later q k (Either x y) h p = omega arith
-parts_later q k (Implies x y) h p = omega arith
-parts_later q k (Box r x) h p = omega arith
-parts_later q k (Diamond r x) h p = omega arith
-parts_later q k (Command c) h p = p
-parts_later q k (Sequence r t) h p = omega arith
-parts_later q k (Choice r t) h p = omega arith
-parts_later q k (Repetition r) h p = omega arith
-parts_later q k (Converse r) h p = omega arith
-parts_later q k (Test x) h p = omega arith
 
 -- the rows before q have the same bits in both tables
 abbrev SameBefore : ℕ → List ℕ → List ℕ → Type 0
@@ -167,24 +151,12 @@ parts_below rows q (Repetition r) p = p.0
 parts_below rows q (Converse r) p = p.0
 parts_below rows q (Test x) p = p.0
 
--- row q holds exactly what it says
-abbrev pub Done : Meaning → List ℕ → ℕ → Row → Type 0
-Done m bs q row = (u v : ℕ) → u < 64 → v < 64 → (In bs q u v → Entry m bs row u v) × (Entry m bs row u v → In bs q u v)
-
--- the rows below k are done, and the others are clear; the table is made of bytes
-pub record SoFar (m : Meaning) (rows : List Row) (k : ℕ) (new : List ℕ) : Type 0 where
-  pub done : (q : ℕ) → q < k → Done m new q (get_or rows q Never)
-  pub clear : (q : ℕ) → k ≤ q → q < 48 → Clear q new
-  pub tidy : TidyBefore m.modes k new
-  pub are_bytes : (i : ℕ) → i < table_bytes → get_or new i 0 < 256
-
 -- a table of zeros
 pub so_far_none : (m : Meaning) (rows : List Row) (t : List ℕ) → ((i : ℕ) → i < table_bytes → get_or t i 0 ≡ 0) → SoFar m rows 0 t
 so_far_none m rows t zeros = record {
   done = λ q h. absurd (omega arith);
   clear = λ q low high u v hu hv. bit_zero t (512 * q + 8 * u + v / 8) (v % 8) (zeros _ (omega arith));
   tidy = λ j u v h. absurd (omega arith);
-  are_bytes = λ i h. omega (arith, zeros i h);
 }
 
 module _ (m : Meaning) (l : Limits m) (rows : List Row) (k : ℕ) (t new : List ℕ) (orderly : Orderly rows) (in_List : k < length rows) (few : length rows ≤ 48)
@@ -217,8 +189,8 @@ module _ (m : Meaning) (l : Limits m) (rows : List Row) (k : ℕ) (t new : List 
       )
 
   -- one row more
-  pub so_far_more : ((i : ℕ) → get_or new i 0 < 256) → SoFar m rows (k + 1) new
-  so_far_more are_bytes = record {
+  pub so_far_more : SoFar m rows (k + 1) new
+  so_far_more = record {
     done = λ q h.
         ⊎_elim
         (λ e. subst (λ (x : ℕ). Done m new x (get_or rows x Never)) (sym e) done_now)
@@ -232,5 +204,4 @@ module _ (m : Meaning) (l : Limits m) (rows : List Row) (k : ℕ) (t new : List 
         entry_tidy m l k t s.tidy (get_or rows k Never) u v (parts k in_List) hv (f.sound u v hu hv (subst (λ (x : ℕ). In new x u v) e i)))
         (λ other. s.tidy j u v (omega arith) hu hv (before_k j u v (omega arith) hu hv ∙ i))
         (cases_eq j k);
-    are_bytes = λ i h. are_bytes i;
   }

@@ -5,7 +5,7 @@ use Rattle.sets.specs.Sets.{with_member, Joined}
 use Rattle.sets.proofs.Bits.{bit_same_byte, bit_other, bit_with_bit, get_or_with_bit}
 use Rattle.label_table.specs.Layout.{pair_bit}
 use Rattle.label_table.specs.Entries.{In}
-use Rattle.label_table.specs.Changes.{Only, Clear, Gained, Filled}
+use Rattle.label_table.specs.Changes.{Only, Gained, Filled}
 
 -- nothing has changed, and then something more has
 pub only_none : (q : ℕ) (t : List ℕ) → Only q t t
@@ -120,11 +120,7 @@ upto_cases D k v (w, h, d) =
     ⊎_elim (λ e. inr (subst (λ (x : ℕ). D x v) e d)) (λ other. inl (w, omega arith, d)) (cases_eq w k)
 
 module _ (q u : ℕ) (D : ℕ → ℕ → Type 0) where
-  -- a loop that gains the modes of each number begins with none
-  pub upto_none : (t : List ℕ) → Gained q u (Upto D 0) t t
-  upto_none t = gained_none q u (Upto D 0) t (λ v h p. let l = p.1 in omega arith)
-
-  -- it goes on with those of k
+  -- a loop that gains the modes of each number goes on with those of k
   pub upto_gained : (k : ℕ) (Q : ℕ → Type 0) (old t new : List ℕ) → ((v : ℕ) → v < 64 → Q v → D k v) → ((v : ℕ) → v < 64 → D k v → Q v)
       → Gained q u (Upto D k) old t → Gained q u Q t new → Gained q u (Upto D (k + 1)) old new
   upto_gained k Q old t new to from so_far g =
@@ -142,11 +138,7 @@ module _ (q u : ℕ) (D : ℕ → ℕ → Type 0) where
       so_far
 
 module _ (q u : ℕ) (S : ℕ → Type 0) where
-  -- a loop that gains the numbers that pass a test begins with none
-  pub below_none : (t : List ℕ) → Gained q u (λ v. (v < 0) × S v) t t
-  below_none t = gained_none q u (λ v. (v < 0) × S v) t (λ v h p. let l = p.0 in omega arith)
-
-  -- it goes on with k, where k passes and nothing between the start and k does
+  -- a loop that gains the numbers that pass a test goes on with k, where k passes and nothing between the start and k does
   pub below_found : (start k : ℕ) (old t new : List ℕ) → start ≤ k → ((w : ℕ) → start ≤ w → w < k → S w → ⊥) → S k
       → Gained q u (λ v. (v < start) × S v) old t → Gained q u (λ v. v ≡ k) t new → Gained q u (λ v. (v < k + 1) × S v) old new
   below_found start k old t new low none here so_far g =
@@ -166,14 +158,6 @@ module _ (q u : ℕ) (S : ℕ → Type 0) where
       (λ v h p. (omega (arith, p.0), p.1))
       (λ v h p. ⊎_elim (λ e. absurd (none (subst S e p.1))) (λ other. (omega (arith, p.0), p.1)) (cases_eq v k))
       so_far
-
--- a block that is clear holds no pairs
-pub filled_none : (q : ℕ) (P : ℕ → ℕ → Type 0) (t : List ℕ) → Clear q t → ((u v : ℕ) → P u v → ⊥) → Filled q P t t
-filled_none q P t clear none = record {
-  sound = λ u v hu hv i. absurd (clear_not_in q u v t (clear u v hu hv) i);
-  full = λ u v hu hv p. absurd (none u v p);
-  only = only_none q t;
-}
 
 -- a block is filled for one mode more
 pub filled_more : (q k : ℕ) (P : ℕ → ℕ → Type 0) (old t new : List ℕ) → k < 64 → Filled q (λ u v. (u < k) × P u v) old t → Gained q k (P k) t new → Filled q (λ u v. (u < k + 1) × P u v) old new

@@ -14,7 +14,7 @@ use Rattle.logic.specs.declared.row.Row.TheVariants.{Never, Flag, Not, Both, Eit
 use Rattle.label_table.specs.Layout.{table_bytes, mode_bit, pair_bit}
 use Rattle.label_table.specs.Labels.{FormulaAt, ProgramAt, RowTrue, RowLeads, ModeFact, PairFact, LabelTable}
 use Rattle.label_table.specs.Entries.{In, Step, FormulaSays, ProgramSays}
-use Rattle.label_table.proofs.Building.{Done, SoFar}
+use Rattle.label_table.specs.Progress.{Done, SoFar}
 
 module _ (m : Meaning) (l : Limits m) (rows : List Row) (bs : List ℕ) where
   -- row q holds the truth of the formula
@@ -240,10 +240,10 @@ module _ (m : Meaning) (l : Limits m) (rows : List Row) (bs : List ℕ) (orderly
       (cases_lt (i / 512) (length rows))
 
   -- all rows are done, so the table is the label table
-  pub so_far_all : table_bytes ≤ length bs → LabelTable m rows bs
-  so_far_all whole = record {
+  pub so_far_all : table_bytes ≤ length bs → ((i : ℕ) → i < table_bytes → get_or bs i 0 < 256) → LabelTable m rows bs
+  so_far_all whole bytes = record {
     whole = whole;
-    are_bytes = s.are_bytes;
+    are_bytes = bytes;
     modes = modes_true;
     pairs = pairs_lead;
     others = others_clear;

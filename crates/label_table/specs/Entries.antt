@@ -1,5 +1,6 @@
 -- What each row of a label table has to hold, in terms of the rows of its parts.
 use Rattle.std.specs.Prelude.{◌≡◌, ℕ, ◌<◌, true, ◌⊎◌, List}
+use Rattle.std.specs.Coded.{×_prop, Unit-prop, le_prop}
 use Rattle.graph.specs.Meaning.{Meaning, mode_limit}
 use Rattle.logic.specs.Truth.{Steps}
 use Rattle.logic.specs.declared.row.Row.{Row}
@@ -30,6 +31,23 @@ PartsBelow q (Choice r s) = (r < q) × (s < q)
 PartsBelow q (Repetition r) = r < q
 PartsBelow q (Converse r) = r < q
 PartsBelow q (Test x) = x < q
+
+-- of that a row has it there is one proof, so a struct can carry it
+pub PartsBelow-prop : (q : ℕ) (row : Row) → IsProp (PartsBelow q row)
+PartsBelow-prop q Never = Unit-prop
+PartsBelow-prop q (Flag p) = Unit-prop
+PartsBelow-prop q (Not x) = le_prop
+PartsBelow-prop q (Both x y) = ×_prop le_prop le_prop
+PartsBelow-prop q (Either x y) = ×_prop le_prop le_prop
+PartsBelow-prop q (Implies x y) = ×_prop le_prop le_prop
+PartsBelow-prop q (Box r x) = ×_prop le_prop le_prop
+PartsBelow-prop q (Diamond r x) = ×_prop le_prop le_prop
+PartsBelow-prop q (Command a) = Unit-prop
+PartsBelow-prop q (Sequence r s) = ×_prop le_prop le_prop
+PartsBelow-prop q (Choice r s) = ×_prop le_prop le_prop
+PartsBelow-prop q (Repetition r) = le_prop
+PartsBelow-prop q (Converse r) = le_prop
+PartsBelow-prop q (Test x) = le_prop
 
 -- a formula is true at u, by the rows of its parts
 abbrev pub FormulaSays : Meaning → List ℕ → Row → ℕ → Type 0

@@ -3,3 +3,4 @@ pub mod Layout
 pub mod Labels
 pub mod Entries
 pub mod Changes
+pub mod Progress

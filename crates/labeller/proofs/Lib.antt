@@ -1,2 +1,3 @@
 -- The laws of this crate's definitions.
+mod Compare
 mod Runs

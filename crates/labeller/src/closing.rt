@@ -1,58 +1,67 @@
 //! Repetition: a row's pairs are closed under walks, by letting in one mode after the other between two others.
 
-ghost use Rattle.std.specs.Prelude.{◌≡◌, ℕ, ◌<◌, ◌≤◌, length, Decides, ◌≢◌};
+ghost use Rattle.std.specs.Prelude.{◌≡◌, ℕ, ◌<◌, ◌≤◌, Decides, ◌≢◌};
 ghost use Rattle.label_table.specs.Changes.{Closed, Covered, Passed};
 ghost use Rattle.label_table.specs.Entries.{In};
-ghost use Rattle.label_table.specs.Layout.{table_bytes};
 
-use crate::gaining::add_set;
+use crate::row_set::{RowSet, Table};
 use graph::Mode;
 use label_table::is_joined;
 use logic::RowNumber;
 
-// Closes row q's pairs among n modes under walks of any number of steps. Each mode is paired with itself already, which is the
-// walk of no steps. It takes at most n × (n - 1) joins of sets.
-pub(crate) fn close(table: &mut [u8], q: RowNumber, n: u8)
-    requires sized { table_bytes ≤ length table.old }
-    requires small { (q < 48) × (1 ≤ n) × (n ≤ 64) }
-    requires home { (u : ℕ) → u < n → In table.old q u u }
-    requires tidy { (u v : ℕ) → u < n → v < 64 → In table.old q u v → v < n }
-    ensures closed { Closed n q table.old table.new }
-{
-    let_in_below(table, q, n, n);
+// The pairs that a row has among the first modes.
+#[derive(Clone, Copy)]
+pub(crate) struct Pairs {
+    pub(crate) row: RowNumber,
+    pub(crate) modes: u8,
+    ghost row_there: { row < 48 },
+    ghost few_modes: { modes ≤ 64 },
 }
 
-// Lets the modes below `end` in, one after the other: the walks that have only these in between become pairs. With all n modes
-// let in, these are all walks.
-fn let_in_below(table: &mut [u8], q: RowNumber, n: u8, end: u8)
-    requires sized { table_bytes ≤ length table.old }
-    requires small { (q < 48) × (end ≤ n) × (n ≤ 64) }
-    requires home { (u : ℕ) → u < n → In table.old q u u }
-    requires tidy { (u v : ℕ) → u < n → v < 64 → In table.old q u v → v < n }
-    ensures covered { Covered n q end table.old table.new }
-    ensures closed { end ≡ n → Closed n q table.old table.new }
-{
-    for k in 0..end {
-        let_in(table, q, n, k);
+impl Pairs {
+    // Closes the pairs under walks of any number of steps. Each mode is paired with itself already, which is the walk of no steps.
+    // Among n modes it takes at most n × (n - 1) joins of sets.
+    pub(crate) fn close(self, table: &mut Table)
+        requires home { (u : ℕ) → u < self.modes → In table.old self.row u u }
+        requires tidy { (u v : ℕ) → u < self.modes → v < 64 → In table.old self.row u v → v < self.modes }
+        ensures closed { Closed self.modes self.row table.old table.new }
+    {
+        self.let_in_below(table, self.modes);
     }
-}
 
-// Lets mode k in: whatever else leads to k leads on to where k leads.
-fn let_in(table: &mut [u8], q: RowNumber, n: u8, k: Mode)
-    requires sized { table_bytes ≤ length table.old }
-    requires small { (q < 48) × (n ≤ 64) × (k < 64) }
-    ensures passed { Passed q k n table.old table.new }
-{
-    for u in 0..n {
-        if leads_to_other(table, q, u, k) {
-            add_set(table, q, u, q, k);
+    // Lets the modes below `end` in, one after the other: the walks that have only these in between become pairs. With all modes
+    // let in, these are all walks.
+    fn let_in_below(self, table: &mut Table, end: u8)
+        requires few { end ≤ self.modes }
+        requires home { (u : ℕ) → u < self.modes → In table.old self.row u u }
+        requires tidy { (u v : ℕ) → u < self.modes → v < 64 → In table.old self.row u v → v < self.modes }
+        ensures covered { Covered self.modes self.row end table.old table.new }
+        ensures closed { end ≡ self.modes → Closed self.modes self.row table.old table.new }
+    {
+        for k in 0..end {
+            self.let_in(table, k);
         }
     }
-}
 
-// Whether row q leads from u to k, which is another mode.
-fn leads_to_other(table: &[u8], q: RowNumber, u: Mode, k: Mode) -> bool
-    ensures exactly { Decides result ((u ≢ k) × In table.now q u k) }
-{
-    u != k && is_joined(table, q, u, k)
+    // Lets mode k in: whatever else leads to k leads on to where k leads.
+    fn let_in(self, table: &mut Table, k: Mode)
+        requires { k < 64 }
+        ensures passed { Passed self.row k self.modes table.old table.new }
+    {
+        let row = self.row;
+        let through = RowSet { row, mode: k };
+        for u in 0..self.modes {
+            if self.leads_to_other(table, u, k) {
+                let set = RowSet { row, mode: u };
+                set.add_set(table, through);
+            }
+        }
+    }
+
+    // Whether the row leads from u to k, which is another mode.
+    fn leads_to_other(self, table: &Table, u: Mode, k: Mode) -> bool
+        ensures exactly { Decides result ((u ≢ k) × In table.now self.row u k) }
+    {
+        u != k && is_joined(table, self.row, u, k)
+    }
 }

@@ -1,55 +1,54 @@
 //! Formula rows: the modes where each formula is true, by the rows of its parts.
 
-ghost use Rattle.std.specs.Prelude.{◌≡◌, ◌<◌, ◌≤◌, true, length, Decides};
+ghost use Rattle.std.specs.Prelude.{◌≡◌, ◌<◌, true, Decides};
 ghost use Rattle.label_table.specs.Changes.{Clear, Filled};
-ghost use Rattle.label_table.specs.Entries.{Entry, FormulaSays, PartsBelow};
-ghost use Rattle.label_table.specs.Layout.{pair_bit, table_bytes};
+ghost use Rattle.label_table.specs.Entries.{Entry, FormulaSays};
+ghost use Rattle.label_table.specs.Layout.{pair_bit};
 ghost use Rattle.logic.specs.Rows.{is_formula};
 
-use crate::compare::{is_subset, meets};
-use crate::gaining::add_mode;
+use crate::placed::PlacedRow;
+use crate::row_set::{RowSet, Table};
 use graph::{Graph, Mode};
-use label_table::{formula_set, is_true, program_set};
+use label_table::is_true;
 use logic::{Row, RowNumber};
 
-// Fills the block of formula row q, which is clear.
-pub(crate) fn label_formula<G: Graph>(graph: &G, table: &mut [u8], q: RowNumber, row: Row)
-    requires sized { table_bytes ≤ length table.old }
-    requires small { q < 48 }
-    requires sort { is_formula row ≡ true }
-    requires parts { PartsBelow q row }
-    requires clear { Clear q table.old }
-    ensures filled { Filled q (Entry (G.meaning graph.now) table.old row) table.old table.new }
+// Fills the block of a formula row, which is clear.
+pub(crate) fn label_formula<G: Graph>(graph: &G, table: &mut Table, placed: PlacedRow)
+    requires sort { is_formula placed.row ≡ true }
+    requires clear { Clear placed.number table.old }
+    ensures filled { Filled placed.number (Entry (G.meaning graph.now) table.old placed.row) table.old table.new }
 {
+    let set = RowSet {
+        row: placed.number,
+        mode: 0,
+    };
     for u in 0..graph.modes() {
-        if says_true(graph, table, row, u) {
-            add_mode(table, q, 0, u);
+        if says_true(graph, table, placed, u) {
+            set.add_mode(table, u);
         }
     }
 }
 
 // Whether the formula is true at u, by the rows of its parts. A box and a diamond compare two sets.
-fn says_true<G: Graph>(graph: &G, table: &[u8], row: Row, u: Mode) -> bool
-    requires sized { table_bytes ≤ length table.now }
-    requires small { u < 64 }
-    requires parts { PartsBelow 48 row }
-    ensures exactly { Decides result (FormulaSays (G.meaning graph.now) table.now row u) }
+fn says_true<G: Graph>(graph: &G, table: &Table, placed: PlacedRow, u: Mode) -> bool
+    requires { u < 64 }
+    ensures exactly { Decides result (FormulaSays (G.meaning graph.now) table.now placed.row u) }
 {
-    match row {
+    match placed.row {
         Row::Never => false,
         Row::Flag(p) => graph.has_flag(p, u),
         Row::Not(x) => !holds(table, x, u),
         Row::Both(x, y) => holds(table, x, u) && holds(table, y, u),
         Row::Either(x, y) => holds(table, x, u) || holds(table, y, u),
         Row::Implies(x, y) => !holds(table, x, u) || holds(table, y, u),
-        Row::Box(r, x) => is_subset(table, program_set(r, u), formula_set(x)),
-        Row::Diamond(r, x) => meets(table, program_set(r, u), formula_set(x)),
+        Row::Box(r, x) => RowSet { row: r, mode: u }.is_subset(RowSet { row: x, mode: 0 }, table),
+        Row::Diamond(r, x) => RowSet { row: r, mode: u }.meets(RowSet { row: x, mode: 0 }, table),
         _ => false,
     }
 }
 
 // Whether formula row x is true at u. A formula row has its modes where a program row has those of mode 0.
-pub(crate) fn holds(table: &[u8], x: RowNumber, u: Mode) -> bool
+pub(crate) fn holds(table: &Table, x: RowNumber, u: Mode) -> bool
     ensures answer { result ≡ pair_bit table.now x 0 u }
 {
     is_true(table, x, u)

@@ -2,13 +2,12 @@
 #![tactic(auto)]
 
 mod closing;
-mod compare;
 mod formulas;
-mod gaining;
-mod joining;
 mod labelling;
+mod placed;
 mod programs;
 mod refusal;
+mod row_set;
 mod rows;
 
 /// Labels a sheet over a graph.

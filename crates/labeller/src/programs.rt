@@ -1,135 +1,126 @@
 //! Program rows: the pairs that each program joins, by the rows of its parts.
 
-ghost use Rattle.std.specs.Prelude.{◌≡◌, ℕ, ◌<◌, ◌≤◌, true, false, ◌⊎◌, length};
+ghost use Rattle.std.specs.Prelude.{◌≡◌, ℕ, ◌<◌, true, false, ◌⊎◌};
 ghost use Rattle.label_table.specs.Changes.{Clear, Filled, Gained, TidyBefore};
 ghost use Rattle.label_table.specs.Entries.{Entry, In, OneStep, PartsBelow, Through, Turned};
-ghost use Rattle.label_table.specs.Layout.{table_bytes};
 ghost use Rattle.logic.specs.Rows.{is_formula};
 
-use crate::closing::close;
+use crate::closing::Pairs;
 use crate::formulas::holds;
-use crate::gaining::{add_mode, add_set};
-use graph::{Command, Graph, Mode};
+use crate::placed::PlacedRow;
+use crate::row_set::{RowSet, Table};
+use graph::{Command, Graph, Mode, targets_of};
 use label_table::is_joined;
 use logic::{Row, RowNumber};
 
-// Adds the modes to which command a leads from u to the set that row q has for u.
-fn add_targets<G: Graph>(graph: &G, table: &mut [u8], q: RowNumber, u: Mode, a: Command)
-    requires sized { table_bytes ≤ length table.old }
-    requires small { (q < 48) × (u < 64) }
-    ensures gained { Gained q u (λ v. (G.meaning graph.now).joins a u v ≡ true) table.old table.new }
+// Graph and table stay two parameters: a struct would hold a `&mut`, and each contract would have to say that it is the same one.
+
+// Adds the modes to which command a leads from the mode of the set.
+fn add_targets<G: Graph>(graph: &G, table: &mut Table, set: RowSet, a: Command)
+    ensures gained { Gained set.row set.mode (λ v. (G.meaning graph.now).joins a set.mode v ≡ true) table.old table.new }
 {
-    let mut start = 0;
-    while let Some(v) = graph.next_target(a, u, start) {
-        add_mode(table, q, u, v);
-        start = v + 1;
+    for v in targets_of(graph, a, set.mode) {
+        set.add_mode(table, v);
     }
 }
 
-// Adds the modes to which row s leads from where row r leads from u: a join of sets for each mode in between.
-fn add_through(table: &mut [u8], q: RowNumber, u: Mode, r: RowNumber, s: RowNumber, n: u8)
-    requires sized { table_bytes ≤ length table.old }
-    requires small { (q < 48) × (u < 64) × (n ≤ 64) }
-    requires parts { (r < q) × (s < q) }
-    ensures gained { Gained q u (Through n table.old r s u) table.old table.new }
+// Adds the modes to which row s leads from where row r leads: a join of sets for each mode in between.
+// That r and s stand before the row stays a clause: a type for it would be made in one arm of `add_steps` and undone here.
+fn add_through<G: Graph>(graph: &G, table: &mut Table, set: RowSet, r: RowNumber, s: RowNumber)
+    requires parts { (r < set.row) × (s < set.row) }
+    ensures gained { Gained set.row set.mode (Through (G.meaning graph.now).modes table.old r s set.mode) table.old table.new }
 {
-    for w in 0..n {
-        if is_joined(table, r, u, w) {
-            add_set(table, q, u, s, w);
+    for w in 0..graph.modes() {
+        if is_joined(table, r, set.mode, w) {
+            set.add_set(table, RowSet { row: s, mode: w });
         }
     }
 }
 
-// Adds the modes from which row r leads to u.
-fn add_turned(table: &mut [u8], q: RowNumber, u: Mode, r: RowNumber, n: u8)
-    requires sized { table_bytes ≤ length table.old }
-    requires small { (q < 48) × (u < 64) × (n ≤ 64) }
-    requires parts { r < q }
-    ensures gained { Gained q u (Turned n table.old r u) table.old table.new }
+// Adds the modes from which row r leads to the mode of the set.
+fn add_turned<G: Graph>(graph: &G, table: &mut Table, set: RowSet, r: RowNumber)
+    requires parts { r < set.row }
+    ensures gained { Gained set.row set.mode (Turned (G.meaning graph.now).modes table.old r set.mode) table.old table.new }
 {
-    for v in 0..n {
-        if is_joined(table, r, v, u) {
-            add_mode(table, q, u, v);
+    for v in 0..graph.modes() {
+        if is_joined(table, r, v, set.mode) {
+            set.add_mode(table, v);
         }
     }
 }
 
-// Adds the modes to which the program leads from u to the set that row q has for u; of a repetition, by at most one step.
-fn add_steps<G: Graph>(graph: &G, table: &mut [u8], q: RowNumber, u: Mode, row: Row)
-    requires sized { table_bytes ≤ length table.old }
-    requires small { (q < 48) × (u < 64) }
-    requires parts { PartsBelow q row }
-    ensures gained { Gained q u (OneStep (G.meaning graph.now) table.old row u) table.old table.new }
+// Adds the modes to which the program leads from u to the set that it has for u; of a repetition, by at most one step.
+fn add_steps<G: Graph>(graph: &G, table: &mut Table, placed: PlacedRow, u: Mode)
+    requires { u < 64 }
+    ensures gained { Gained placed.number u (OneStep (G.meaning graph.now) table.old placed.row u) table.old table.new }
 {
-    match row {
-        Row::Command(a) => add_targets(graph, table, q, u, a),
-        Row::Sequence(r, s) => add_through(table, q, u, r, s, graph.modes()),
-        Row::Choice(r, s) => add_either(table, q, u, r, s),
-        Row::Repetition(r) => add_step_or_none(table, q, u, r),
-        Row::Converse(r) => add_turned(table, q, u, r, graph.modes()),
-        Row::Test(x) => add_if_true(table, q, u, x),
+    let set = RowSet {
+        row: placed.number,
+        mode: u,
+    };
+    match placed.row {
+        Row::Command(a) => add_targets(graph, table, set, a),
+        Row::Sequence(r, s) => add_through(graph, table, set, r, s),
+        Row::Choice(r, s) => add_either(table, set, r, s),
+        Row::Repetition(r) => add_step_or_none(table, set, r),
+        Row::Converse(r) => add_turned(graph, table, set, r),
+        Row::Test(x) => add_if_true(table, set, x),
         _ => {}
     }
 }
 
-// Adds the modes to which one of two rows leads from u.
-fn add_either(table: &mut [u8], q: RowNumber, u: Mode, r: RowNumber, s: RowNumber)
-    requires sized { table_bytes ≤ length table.old }
-    requires small { (q < 48) × (u < 64) }
-    requires parts { (r < q) × (s < q) }
-    ensures gained { Gained q u (λ v. In table.old r u v ⊎ In table.old s u v) table.old table.new }
+// Adds the modes to which one of two rows leads.
+fn add_either(table: &mut Table, set: RowSet, r: RowNumber, s: RowNumber)
+    requires parts { (r < set.row) × (s < set.row) }
+    ensures gained { Gained set.row set.mode (λ v. In table.old r set.mode v ⊎ In table.old s set.mode v) table.old table.new }
 {
-    add_set(table, q, u, r, u);
-    add_set(table, q, u, s, u);
+    let u = set.mode;
+    set.add_set(table, RowSet { row: r, mode: u });
+    set.add_set(table, RowSet { row: s, mode: u });
 }
 
-// Adds the modes to which row r leads from u, and u itself, to which no step leads.
-fn add_step_or_none(table: &mut [u8], q: RowNumber, u: Mode, r: RowNumber)
-    requires sized { table_bytes ≤ length table.old }
-    requires small { (q < 48) × (u < 64) }
-    requires parts { r < q }
-    ensures gained { Gained q u (λ v. In table.old r u v ⊎ (v ≡ u)) table.old table.new }
+// Adds the modes to which row r leads, and the mode of the set itself, to which no step leads.
+fn add_step_or_none(table: &mut Table, set: RowSet, r: RowNumber)
+    requires parts { r < set.row }
+    ensures gained { Gained set.row set.mode (λ v. In table.old r set.mode v ⊎ (v ≡ set.mode)) table.old table.new }
 {
-    add_set(table, q, u, r, u);
-    add_mode(table, q, u, u);
+    let u = set.mode;
+    set.add_set(table, RowSet { row: r, mode: u });
+    set.add_mode(table, u);
 }
 
-// Adds u itself, where formula row x is true at u.
-fn add_if_true(table: &mut [u8], q: RowNumber, u: Mode, x: RowNumber)
-    requires sized { table_bytes ≤ length table.old }
-    requires small { (q < 48) × (u < 64) }
-    ensures gained { Gained q u (λ v. In table.old x 0 u × (v ≡ u)) table.old table.new }
+// Adds the mode of the set itself, where formula row x is true there.
+fn add_if_true(table: &mut Table, set: RowSet, x: RowNumber)
+    ensures gained { Gained set.row set.mode (λ v. In table.old x 0 set.mode × (v ≡ set.mode)) table.old table.new }
 {
-    if holds(table, x, u) {
-        add_mode(table, q, u, u);
+    if holds(table, x, set.mode) {
+        set.add_mode(table, set.mode);
     }
 }
 
-// Fills the block of program row q, which is clear: set by set, and of a repetition then by walks of any number of steps.
-pub(crate) fn label_program<G: Graph>(graph: &G, table: &mut [u8], q: RowNumber, row: Row)
-    requires sized { table_bytes ≤ length table.old }
-    requires small { q < 48 }
-    requires sort { is_formula row ≡ false }
-    requires parts { PartsBelow q row }
-    requires tidy { TidyBefore (G.meaning graph.now).modes q table.old }
-    requires clear { Clear q table.old }
-    ensures filled { Filled q (Entry (G.meaning graph.now) table.old row) table.old table.new }
+// Fills the block of a program row, which is clear: set by set, and of a repetition then by walks of any number of steps.
+pub(crate) fn label_program<G: Graph>(graph: &G, table: &mut Table, placed: PlacedRow)
+    requires sort { is_formula placed.row ≡ false }
+    requires tidy { TidyBefore (G.meaning graph.now).modes placed.number table.old }
+    requires clear { Clear placed.number table.old }
+    ensures filled { Filled placed.number (Entry (G.meaning graph.now) table.old placed.row) table.old table.new }
 {
-    add_all_steps(graph, table, q, row);
-    if let Row::Repetition(_) = row {
-        close(table, q, graph.modes());
+    add_all_steps(graph, table, placed);
+    if let Row::Repetition(_) = placed.row {
+        let pairs = Pairs {
+            row: placed.number,
+            modes: graph.modes(),
+        };
+        pairs.close(table);
     }
 }
 
 // Adds the modes to which the program leads to the set of each mode; of a repetition, by at most one step.
-fn add_all_steps<G: Graph>(graph: &G, table: &mut [u8], q: RowNumber, row: Row)
-    requires sized { table_bytes ≤ length table.old }
-    requires small { q < 48 }
-    requires parts { PartsBelow q row }
-    requires clear { Clear q table.old }
-    ensures filled { Filled q (λ u v. (u < (G.meaning graph.now).modes) × OneStep (G.meaning graph.now) table.old row u v) table.old table.new }
+fn add_all_steps<G: Graph>(graph: &G, table: &mut Table, placed: PlacedRow)
+    requires clear { Clear placed.number table.old }
+    ensures filled { Filled placed.number (λ u v. (u < (G.meaning graph.now).modes) × OneStep (G.meaning graph.now) table.old placed.row u v) table.old table.new }
 {
     for u in 0..graph.modes() {
-        add_steps(graph, table, q, u, row);
+        add_steps(graph, table, placed, u);
     }
 }

@@ -7,9 +7,9 @@ ghost use Rattle.std.specs.Prelude.{◌≡◌};
 #[derive(Clone, Copy, PartialEq, Eq, Debug)]
 pub enum Refusal {
     /// The memory that was handed is shorter than a label table.
-    MemoryShort,
+    MemoryShort = 9,
     /// The sheet does not fit the graph.
-    Unfit,
+    Unfit = 14,
 }
 
 impl Refusal {
@@ -17,9 +17,6 @@ impl Refusal {
     pub fn number(self) -> u8
         ensures answer { result ≡ refusal_number self }
     {
-        match self {
-            Refusal::MemoryShort => 9,
-            Refusal::Unfit => 14,
-        }
+        self as u8
     }
 }

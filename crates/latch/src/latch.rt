@@ -1,26 +1,26 @@
 //! The latch, its constructor, and its answers to the questions of every graph.
 
 ghost use Rattle.graph.specs.Refusals.{refusal_number};
-ghost use Rattle.latch.specs.Latched.{CanLatch, Ground, below, has_room, latch_meaning, latch_moves, latched};
+ghost use Rattle.graph.specs.Meaning.{flag_limit, mode_limit};
+ghost use Rattle.latch.specs.Latched.{CanLatch, Ground, below, has_room, latch_moves, latched};
 ghost use Rattle.latch.specs.Limits.{latch_limits};
-ghost use Rattle.std.specs.Prelude.{◌≡◌, MatchResult};
+ghost use Rattle.std.specs.Prelude.{◌≡◌, ◌+◌, ◌*◌, ◌≤◌, MatchResult};
 
 use graph::{Command, FLAG_LIMIT, Flag, Graph, MODE_LIMIT, Mode, Refusal};
 
 /// A graph in which one command fires once: it leads only from modes with the latch open to modes with the latch set.
-///
-/// The constructor refuses a graph that is too large for a latch. A value over such a graph would still be a graph: its answers
-/// are then those of the graph below.
 #[derive(Drop)]
 pub struct Latch<G: Graph> {
     graph: G,
     command: Command,
+    ghost few_modes: { 2 * (G.meaning graph).modes ≤ mode_limit },
+    ghost few_flags: { (G.meaning graph).flags + 1 ≤ flag_limit },
 }
 
 impl<G: Graph + Drop> Latch<G> {
     /// The graph with a latch on the command, which the graph has to have; it needs room for twice the modes and one more flag.
     pub fn new(graph: G, command: Command) -> Result<Latch<G>, Refusal>
-        ensures made { MatchResult result (λ l. CanLatch command (G.meaning graph) × (latch_meaning l.command (G.meaning l.graph) ≡ latched command (G.meaning graph))) (λ e. Ground command (G.meaning graph) (refusal_number e)) }
+        ensures made { MatchResult result (λ l. CanLatch command (G.meaning graph) × (latched l.command (G.meaning l.graph) ≡ latched command (G.meaning graph))) (λ e. Ground command (G.meaning graph) (refusal_number e)) }
     {
         if has_room(&graph) && command < graph.commands() {
             Ok(Latch { graph, command })
@@ -56,13 +56,12 @@ fn moves(one_shot: bool, before: bool, after: bool) -> bool
 }
 
 impl<G: Graph> Graph for Latch<G> {
-    ghost meaning = { λ l. latch_meaning l.command (G.Graph.meaning l.graph) };
+    ghost meaning = { λ l. latched l.command (G.Graph.meaning l.graph) };
 
-    ghost limits = { λ l. latch_limits l.command (G.Graph.meaning l.graph) (G.Graph.limits l.graph) };
+    ghost limits = { λ l. latch_limits l.command (G.Graph.meaning l.graph) (G.Graph.limits l.graph) l.few_modes l.few_flags };
 
     fn modes(&self) -> u8 {
-        let n = self.graph.modes();
-        if has_room(&self.graph) { 2 * n } else { n }
+        2 * self.graph.modes()
     }
 
     fn commands(&self) -> u8 {
@@ -70,14 +69,10 @@ impl<G: Graph> Graph for Latch<G> {
     }
 
     fn flags(&self) -> u8 {
-        let f = self.graph.flags();
-        if has_room(&self.graph) { f + 1 } else { f }
+        self.graph.flags() + 1
     }
 
     fn has_flag(&self, p: Flag, u: Mode) -> bool {
-        if !has_room(&self.graph) {
-            return self.graph.has_flag(p, u);
-        }
         let n = self.graph.modes();
         if p == self.graph.flags() {
             n <= u && u < 2 * n
@@ -87,9 +82,6 @@ impl<G: Graph> Graph for Latch<G> {
     }
 
     fn joins(&self, a: Command, u: Mode, v: Mode) -> bool {
-        if !has_room(&self.graph) {
-            return self.graph.joins(a, u, v);
-        }
         let n = self.graph.modes();
         self.graph.joins(a, mode_below(n, u), mode_below(n, v))
             && moves(a == self.command, n <= u, n <= v)

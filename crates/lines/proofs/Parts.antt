@@ -1,19 +1,22 @@
--- A line that grows part by part.
-use Rattle.std.proofs.Common.{◌≡◌, ℕ, ◌+◌, Bool, cond, List, [], ◌++◌, sym, refl, ap, ◌∙◌, append_assoc, append-nil, add-one}
+-- A line that is written part by part.
+use Rattle.std.proofs.Common.{◌≡◌, ℕ, ◌+◌, Bool, cond, List, [], ◌++◌, sym, refl, ap, ◌∙◌, append-nil, add-one}
+use Rattle.std.proofs.Output.{has_written_append, has_written_of_eq, writes_in_calls_nil}
+use Rattle.std.specs.Fmt.{HasWritten, IsPlainFormatter}
+use Rattle.std.specs.declared.fmt.Formatter.{Formatter}
 use Rattle.lines.specs.LabelLines.{mode_part, modes_below, pair_part, pairs_of, pairs_below}
 
--- nothing is behind the line yet
-pub parts_none : (start part : List ℕ) → part ≡ [] → start ≡ start ++ part
-parts_none start part e = sym (append-nil start) ∙ ap (λ (x : List ℕ). start ++ x) (sym e)
+module _ {W : Type 0} (took : W → List ℕ → W → Type 0) where
+  -- nothing is written yet
+  pub none_written : (f : Formatter W) (part : List ℕ) → part ≡ [] → IsPlainFormatter f → HasWritten took f part f
+  none_written f part e plain = has_written_of_eq took f [] part f (sym e) (record { wrote = writes_in_calls_nil took _; plain = plain })
 
--- one part more
-pub parts_more : (start before part line new all : List ℕ) → line ≡ start ++ before → new ≡ line ++ part → all ≡ before ++ part → new ≡ start ++ all
-parts_more start before part line new all e f a =
-    f ∙ ap (λ (x : List ℕ). x ++ part) e ∙ append_assoc start before part ∙ ap (λ (x : List ℕ). start ++ x) (sym a)
+  -- one part more
+  pub more_written : (f g h : Formatter W) (before part all : List ℕ) → HasWritten took f before g → HasWritten took g part h → all ≡ before ++ part → HasWritten took f all h
+  more_written f g h before part all p q e = has_written_of_eq took f (before ++ part) all h (sym e) (has_written_append took f before g part h p q)
 
--- a part that is left out
-pub parts_passed : (start before line all : List ℕ) → line ≡ start ++ before → all ≡ before ++ [] → line ≡ start ++ all
-parts_passed start before line all e a = e ∙ ap (λ (x : List ℕ). start ++ x) (sym (append-nil before) ∙ sym a)
+  -- a part that is left out
+  pub left_out : (f g : Formatter W) (before all : List ℕ) → HasWritten took f before g → all ≡ before ++ [] → HasWritten took f all g
+  left_out f g before all p e = has_written_of_eq took f before all g (sym (append-nil before) ∙ sym e) p
 
 -- the next mode, which passes or does not
 pub modes_more : (f : ℕ → Bool) (k : ℕ) (b : Bool) → f k ≡ b → modes_below f (k + 1) ≡ modes_below f k ++ cond b (mode_part k) []

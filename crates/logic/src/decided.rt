@@ -8,11 +8,5 @@ pub fn truth_is_decided() -> bool
     ensures decided { TruthDecided }
     ensures answer { result ≡ true }
 {
-    proved();
     true
 }
-
-// Gives the proof.
-fn proved()
-    ensures decided { TruthDecided }
-{}

@@ -1,7 +1,7 @@
 //! Reads good claim sheets and sheets with each fault, and prints what each call answers and what it leaves in the sheet.
 #![tactic(auto)]
 
-use lines::refusal_line;
+use lines::RefusalLine;
 use logic::{Claim, Row, Scope, Sheet};
 use sheet::read_sheet;
 use std::alloc::{AllocError, Global};
@@ -161,10 +161,13 @@ fn used_sheet(heap: Global) -> Result<Sheet, AllocError> {
 fn print_answer(rt: HostRuntime, name: &str, text: &[u8], sheet: &mut Sheet) -> anyhow::Result<()> {
     match read_sheet(text, sheet) {
         Ok(()) => print!(rt; "{name}: read; ")?,
-        Err(f) => {
-            let line = refusal_line(rt.alloc(), "claims", f)?;
-            let of = f.text.number();
-            let layer = f.layer.number();
+        Err(fault) => {
+            let line = RefusalLine {
+                word: "claims",
+                fault,
+            };
+            let of = fault.text.number();
+            let layer = fault.layer.number();
             print!(rt; "{name}: {line} in text {of}, layer {layer}; ")?;
         }
     }

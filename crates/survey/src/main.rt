@@ -3,7 +3,7 @@
 
 use anyhow::anyhow;
 use graph::{Graph, is_stuck};
-use lines::{claim_line, number_line, refusal_line, row_line};
+use lines::{ClaimLine, NumberLine, RefusalLine, RowLine};
 use list_graph::{ListGraph, TABLE_BYTES};
 use logic::Sheet;
 use sheet::read_sheet;
@@ -30,11 +30,14 @@ fn main(rt: HostRuntime) -> anyhow::Result<ExitCode> {
             let Ok(graph) = made else {
                 return Err(anyhow!("survey: the table's counts make no graph"));
             };
-            print_survey(rt, &graph)?;
+            print_survey(&rt, &graph)?;
             survey_claims(rt)
         }
         Err(fault) => {
-            rt.println(refusal_line(rt.alloc(), "modes", fault)?)?;
+            rt.println(RefusalLine {
+                word: "modes",
+                fault,
+            })?;
             Ok(ExitCode::SUCCESS)
         }
     }
@@ -47,17 +50,20 @@ fn cannot_read(rt: HostRuntime, file: &str, e: io::Error) -> anyhow::Result<Exit
 }
 
 // The counts of any graph, and its stuck modes, rising.
-fn print_survey<G: Graph>(rt: HostRuntime, graph: &G) -> anyhow::Result<()> {
-    let heap = rt.alloc();
-    rt.println(number_line(heap, "modes", graph.modes())?)?;
-    rt.println(number_line(heap, "commands", graph.commands())?)?;
-    rt.println(number_line(heap, "flags", graph.flags())?)?;
+fn print_survey<G: Graph>(rt: &impl Print, graph: &G) -> io::Result<()> {
+    print_number(rt, "modes", graph.modes())?;
+    print_number(rt, "commands", graph.commands())?;
+    print_number(rt, "flags", graph.flags())?;
     for u in 0..graph.modes() {
         if is_stuck(graph, u) {
-            rt.println(number_line(heap, "stuck", u)?)?;
+            print_number(rt, "stuck", u)?;
         }
     }
     Ok(())
+}
+
+fn print_number(rt: &impl Print, word: &str, number: u8) -> io::Result<()> {
+    rt.println(NumberLine { word, number })
 }
 
 // The claims of the sheet, where there is one.
@@ -73,25 +79,27 @@ fn survey_claims(rt: HostRuntime) -> anyhow::Result<ExitCode> {
     };
     let mut sheet = Sheet::new(rt.alloc())?;
     match read_sheet(&text, &mut sheet) {
-        Ok(()) => print_sheet(rt, &sheet)?,
-        Err(fault) => rt.println(refusal_line(rt.alloc(), "claims", fault)?)?,
+        Ok(()) => print_sheet(&rt, &sheet)?,
+        Err(fault) => rt.println(RefusalLine {
+            word: "claims",
+            fault,
+        })?,
     }
     Ok(ExitCode::SUCCESS)
 }
 
 // Each claim, and then the rows that were numbered for it.
-fn print_sheet(rt: HostRuntime, sheet: &Sheet) -> anyhow::Result<()> {
-    let mut number: u8 = 0;
-    let mut first: u8 = 0;
-    for claim in sheet.claims() {
-        rt.println(claim_line(rt.alloc(), number, *claim)?)?;
-        let end = claim.row.saturating_add(1);
-        for i in first..end {
-            if let Some(row) = sheet.rows().get(usize::from(i)) {
-                rt.println(row_line(rt.alloc(), i, *row)?)?;
-            }
+fn print_sheet(rt: &impl Print, sheet: &Sheet) -> io::Result<()> {
+    let mut first = 0;
+    for (number, claim) in (0..).zip(sheet.claims()) {
+        rt.println(ClaimLine {
+            number,
+            claim: *claim,
+        })?;
+        let end = usize::from(claim.row) + 1;
+        for (number, row) in (0..).zip(sheet.rows()).take(end).skip(first) {
+            rt.println(RowLine { number, row: *row })?;
         }
-        number = number.saturating_add(1);
         first = end;
     }
     Ok(())

@@ -1,7 +1,7 @@
 //! Reads good tables and tables with each fault, and prints what each call answers and what it leaves in memory.
 #![tactic(auto)]
 
-use lines::refusal_line;
+use lines::RefusalLine;
 use list_graph::TABLE_BYTES;
 use std::alloc::{AllocError, Global};
 use table::read_table;
@@ -145,10 +145,13 @@ fn show_in(rt: HostRuntime, name: &str, text: &[u8], len: usize) -> anyhow::Resu
             let flags = c.flags;
             print!(rt; "{name}: {modes} modes, {commands} commands, {flags} flags; ")?;
         }
-        Err(f) => {
-            let line = refusal_line(rt.alloc(), "modes", f)?;
-            let of = f.text.number();
-            let layer = f.layer.number();
+        Err(fault) => {
+            let line = RefusalLine {
+                word: "modes",
+                fault,
+            };
+            let of = fault.text.number();
+            let layer = fault.layer.number();
             print!(rt; "{name}: {line} in text {of}, layer {layer}; ")?;
         }
     }
@@ -157,22 +160,23 @@ fn show_in(rt: HostRuntime, name: &str, text: &[u8], len: usize) -> anyhow::Resu
 
 // How many bits of the table are set, unless it is untouched, and whether what lies behind it is.
 fn print_memory(rt: HostRuntime, memory: &[u8]) -> anyhow::Result<()> {
-    let mut bits: u32 = 0;
-    let mut touched = false;
-    for byte in memory.iter().take(TABLE_BYTES) {
-        bits = bits.saturating_add(byte.count_ones());
-        touched = touched || *byte != UNTOUCHED;
-    }
-    let mut kept = 0usize;
-    for byte in memory.iter().skip(TABLE_BYTES) {
-        if *byte == UNTOUCHED {
-            kept = kept.saturating_add(1);
-        }
-    }
-    if touched {
-        println!(rt; "{bits} bits set, {kept} bytes behind the table kept")?;
-    } else {
+    if memory.iter().take(TABLE_BYTES).all(|b| *b == UNTOUCHED) {
         println!(rt; "untouched")?;
+    } else {
+        let bits = set_bits(memory);
+        let kept = memory
+            .iter()
+            .skip(TABLE_BYTES)
+            .filter(|b| **b == UNTOUCHED)
+            .count();
+        println!(rt; "{bits} bits set, {kept} bytes behind the table kept")?;
     }
     Ok(())
+}
+
+fn set_bits(memory: &[u8]) -> u32 {
+    memory
+        .iter()
+        .take(TABLE_BYTES)
+        .fold(0u32, |n, b| n.saturating_add(b.count_ones()))
 }

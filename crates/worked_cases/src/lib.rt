@@ -4,6 +4,11 @@
 ghost use Rattle.worked_cases.specs.Cases.{WorkedCases};
 ghost use Rattle.std.specs.Prelude.{◌≡◌};
 
+mod tables;
+
+/// Two of the models, written into a table's bytes.
+pub use tables::{write_model_s, write_model_t};
+
 /// How many models the worked cases speak of. That this function is there says that every case is proved.
 pub fn models() -> u8
     ensures cases { WorkedCases }

@@ -5,4 +5,4 @@ use Rattle.label_table.specs.Entries.{FormulaSays}
 use Rattle.labeller.proofs.formulas.label_formula.Given as goal
 
 abbrev pub invariant-loop-u : goal.invariant-loop-u
-invariant-loop-u g l = Gained l.q 0 (λ v. (v < l.u) × FormulaSays (g.G.Graph.meaning l.graph) l.initial.table l.row v) l.initial.table l.table
+invariant-loop-u g l = Gained l.placed.number 0 (λ v. (v < l.u) × FormulaSays (g.G.Graph.meaning l.graph) l.initial.table l.placed.row v) l.initial.table l.table

@@ -6,8 +6,8 @@ use Rattle.labeller.proofs.programs.add_either.Goals as goal
 
 pub returns : goal.returns
 returns c =
-    let q = c.args.q in
-    let u = c.args.u in
+    let q = c.args.set.row in
+    let u = c.args.set.mode in
     let s = c.args.s in
     let old = c.args.table.now in
     let t = c.add_set.new.table in

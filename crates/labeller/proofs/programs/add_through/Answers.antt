@@ -1,26 +1,26 @@
 -- One mode more is in between, or row r does not lead there.
-use Rattle.std.proofs.Common.{ℕ, ◌+◌, List, sym, ◌∙◌, subst, arith}
+use Rattle.std.proofs.Common.{ℕ, ◌+◌, ◌<◌, ◌≤◌, List, sym, ◌∙◌, subst, arith}
 use Rattle.label_table.specs.Changes.{Gained}
 use Rattle.label_table.specs.Entries.{In, Through}
-use Rattle.label_table.proofs.Changes.{clear_not_in, only_bit, upto_none, upto_gained, upto_passed}
+use Rattle.label_table.proofs.Changes.{clear_not_in, only_bit, upto_gained, upto_passed}
 use Rattle.labeller.proofs.programs.add_through.Goals as goal
 use Rattle.labeller.proofs.programs.add_through.Goals.{then-is_joined, else-is_joined}
 
-pub loop-w-init : goal.loop-w-init
-loop-w-init c = upto_none c.args.q c.args.u (λ w v. In c.args.table.now c.args.r c.args.u w × In c.args.table.now c.args.s w v) c.args.table.now
-
 pub loop-w-preserved : goal.loop-w-preserved
-loop-w-preserved c =
+loop-w-preserved g c =
     let old = c.args.table.now in
     let t = c.loop-w.table in
     let w = c.loop-w.w in
-    let q = c.args.q in
-    let u = c.args.u in
+    let m = g.G.Graph.meaning c.args.graph.now in
+    let few : m.modes ≤ 64 = (g.G.Graph.limits c.args.graph.now).modes_high in
+    let low : w < 64 = omega (arith, c.modes-w-end.ensures.answer) in
+    let q = c.args.set.row in
+    let u = c.args.set.mode in
     let r = c.args.r in
     let s = c.args.s in
     let D : ℕ → ℕ → Type 0 = λ w v. In old r u w × In old s w v in
     let P : List ℕ → Type 0 = λ new. Gained q u (Through (w + 1) old r s u) old new in
-    let first = only_bit q r u w old t (λ e. omega arith) (omega arith) (omega arith) c.loop-w.invariant.only in
+    let first = only_bit q r u w old t (λ e. omega arith) (omega arith) low c.loop-w.invariant.only in
     elim c.if-is_joined.branch [
       | then-is_joined a ↦
           subst P (sym a.table-is)

@@ -4,4 +4,4 @@ use Rattle.label_table.specs.Entries.{Through}
 use Rattle.labeller.proofs.programs.add_through.Given as goal
 
 abbrev pub invariant-loop-w : goal.invariant-loop-w
-invariant-loop-w l = Gained l.q l.u (Through l.w l.initial.table l.r l.s l.u) l.initial.table l.table
+invariant-loop-w g l = Gained l.set.row l.set.mode (Through l.w l.initial.table l.r l.s l.set.mode) l.initial.table l.table

@@ -4,4 +4,4 @@ use Rattle.label_table.specs.Entries.{Turned}
 use Rattle.labeller.proofs.programs.add_turned.Given as goal
 
 abbrev pub invariant-loop-v : goal.invariant-loop-v
-invariant-loop-v l = Gained l.q l.u (Turned l.v l.initial.table l.r l.u) l.initial.table l.table
+invariant-loop-v g l = Gained l.set.row l.set.mode (Turned l.v l.initial.table l.r l.set.mode) l.initial.table l.table

@@ -14,7 +14,7 @@ returns-in-Repetition g c =
     let old = c.args.table.now in
     let t = c.add_all_steps.new.table in
     let new = c.close.new.table in
-    let q = c.args.q in
+    let q = c.args.placed.number in
     let r = c.in-Repetition.field-0 in
     let steps : Filled q (λ u v. (u < m.modes) × OneStep m old (Repetition r) u v) old t =
     subst (λ (row : Row). Filled q (λ u v. (u < m.modes) × OneStep m old row u v) old t) c.in-Repetition.is c.add_all_steps.ensures.filled in

@@ -1,8 +1,0 @@
--- The loop over the modes: the line has what those behind it give.
-use Rattle.std.proofs.Common.{◌≡◌, ◌++◌, string_bytes}
-use Rattle.label_table.specs.Layout.{mode_bit}
-use Rattle.lines.specs.LabelLines.{modes_below}
-use Rattle.lines.proofs.labels.push_modes.Given as goal
-
-abbrev pub invariant-loop-u : goal.invariant-loop-u
-invariant-loop-u l = string_bytes l.line ≡ string_bytes l.initial.line ++ modes_below (mode_bit l.table l.r) l.u
