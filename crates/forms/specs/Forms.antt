@@ -20,6 +20,10 @@ form_reading f = reading f.words
 abbrev pub misplaced : {A : Type 0} → Place → Reading → Out A
 misplaced at p = bad (record { number = 4; text = p.text; layer = 2; place = at })
 
+-- the refusal of a token past a limit of the text
+abbrev pub beyond : {A : Type 0} → ℕ → Place → Reading → Out A
+beyond reason at p = bad (record { number = reason; text = p.text; layer = 3; place = at })
+
 -- an opening bracket, by its place
 abbrev pub opened : Tok → Place → Reading → Out Place
 opened (word w) at p = misplaced at p
@@ -28,10 +32,6 @@ opened opens at p = good at p
 opened closes at p = misplaced at p
 opened line_end at p = misplaced at p
 opened text_end at p = misplaced at p
-
--- the refusal of a token past a limit of the text
-abbrev pub beyond : {A : Type 0} → ℕ → Place → Reading → Out A
-beyond reason at p = bad (record { number = reason; text = p.text; layer = 3; place = at })
 
 -- a closing bracket, by its place
 abbrev pub closed : Tok → Place → Reading → Out Place
