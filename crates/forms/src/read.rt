@@ -9,6 +9,7 @@ use crate::form::{Forms, Item, Name, Next, Numeral};
 use std::ops::Range;
 use words::{Fault, Layer, Place, Placed, Reason, Text, Token, Words};
 
+// The clause `shorter` stands at each step: it tells of two states, and an invariant or a ghost field would tell of one.
 impl<'a> Forms<'a> {
     /// A view over a text from its first byte on; it looks at no byte past the limit.
     pub fn new(bytes: &'a [u8], text: Text) -> Forms<'a>
