@@ -1,2 +1,2 @@
-pub mod Turns
 pub mod Spelled
+pub mod Steps

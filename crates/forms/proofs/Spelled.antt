@@ -1,11 +1,11 @@
 -- What each step of reading forms takes is what the tokens of the text spell there.
 use Rattle.std.proofs.Common.{◌≡◌, ℕ, zero, suc, ◌-◌, ◌<◌, ◌≤◌, ◌⊎◌, List, [], ◌∷◌, ◌++◌, length, sym, refl, ap, ◌∙◌, subst, inl, inr, append-nil, arith, length-append}
 use Rattle.words.specs.declared.fault.Place.{Place}
+use Rattle.words.specs.declared.token.Placed.{Placed}
 use Rattle.words.specs.Words.{Tok, word, number, opens, closes, line_end, text_end, TokenAt, Reading, Out, good, bad, bind, next_token}
 use Rattle.words.proofs.Tokens.{Reads, reads_end, reads_token, none_read, first_read, token_shorter, text_end_rest, text_end_stays, reads_nothing}
 use Rattle.forms.specs.declared.form.Next.{Next}
 use Rattle.forms.specs.declared.form.Next.TheVariants.{Form, End}
-use Rattle.forms.specs.declared.form.Numeral.{Numeral}
 use Rattle.forms.specs.Forms.{opened, closed, numbered, named, WordAt, ended, begun, taken, past_blank, within_lines, next_form}
 use Rattle.forms.specs.Lines.{Lines, no_line, blank_line, last_form, form_line}
 
@@ -83,7 +83,7 @@ pub numbered_from_reads : {p : Reading} {n : ℕ} {ts : List Tok} → Reads p (n
 numbered_from_reads = taken_from_reads numbered
 
 -- and is spelled where it is read
-pub reads_from_numbered : {p q : Reading} {m : Numeral} {ts : List Tok} → taken numbered p ≡ good m q → Reads q ts → Reads p (number m.value ∷ ts)
+pub reads_from_numbered : {p q : Reading} {m : Placed ℕ} {ts : List Tok} → taken numbered p ≡ good m q → Reads q ts → Reads p (number m.value ∷ ts)
 reads_from_numbered = reads_from_taken numbered (λ m. number m.value) (elim [ word w ↦ λ at q e. tt | number n ↦ λ at q e ts r. reads_token e tt r | opens ↦ λ at q e. tt | closes ↦ λ at q e. tt | line_end ↦ λ at q e. tt | text_end ↦ λ at q e. tt ])
 
 -- a word is read where it is spelled
@@ -97,9 +97,9 @@ reads_from_named = reads_from_taken named (λ w. word w.bytes) (elim [ word w �
 -- past the last token there is no line
 lines_none : {ts : List Tok} {forms : List (List Tok)} → Lines ts forms → ts ≡ [] → forms ≡ []
 lines_none no_line e = refl
-lines_none (blank_line _) e = absurd (omega (arith, ap length e))
-lines_none last_form e = absurd (omega (arith, ap length e))
-lines_none (form_line _) e = absurd (omega (arith, ap length e))
+lines_none (blank_line _) e = cc
+lines_none last_form e = cc
+lines_none (form_line _) e = cc
 
 -- the end of a form's line is read where it is spelled
 pub ended_from_reads : {p : Reading} {ts : List Tok} {forms : List (List Tok)} → Reads p ts → After ts forms → (q : Reading) × (us : List Tok) × (taken ended p ≡ good tt q) × Reads q us × Lines us forms

@@ -3,7 +3,7 @@
 ghost use Rattle.std.specs.Str.{bytes_eq};
 ghost use Rattle.std.specs.Prelude.{◌≡◌};
 
-use words::{Place, Words};
+use words::{Place, Placed, Words};
 
 /// A view over a text, form by form.
 #[derive(Drop)]
@@ -11,43 +11,21 @@ pub struct Forms<'a> {
     pub(crate) words: Words<'a>,
 }
 
-// How a line begins.
-#[derive(Clone, Copy)]
-pub(crate) enum LineStart {
-    // with an opening bracket
-    Form,
-    // it has ended, and another line follows
-    Blank,
-    // the text has ended, at this place
-    End(Place),
-}
-
 /// What comes after the blank lines.
+// Not an `Option<Place>`: there the text's end would be the `Some`, and a form, which is what callers want, the `None`.
 #[derive(Clone, Copy)]
 pub enum Next {
     /// A line that begins with an opening bracket.
     Form,
-    // the text's end, at this place
+    /// The text's end, at this place.
     End(Place),
 }
 
-/// A number of the text, and its place.
-#[derive(Clone, Copy)]
-pub struct Numeral {
-    /// Its value, below 1,000.
-    pub value: u16,
-    /// Where it begins.
-    pub place: Place,
-}
+/// A number of the text, below 1,000, and its place.
+pub type Numeral = Placed<u16>;
 
 /// A word of the text, borrowed from it, and its place.
-#[derive(Clone, Copy)]
-pub struct Name<'a> {
-    /// Its letters.
-    pub bytes: &'a [u8],
-    /// Where it begins.
-    pub place: Place,
-}
+pub type Name<'a> = Placed<&'a [u8]>;
 
 /// A word or a number of the text.
 #[derive(Clone, Copy)]
@@ -59,14 +37,8 @@ pub enum Item<'a> {
 }
 
 /// Whether two words have the same letters.
+// Not `==` at the callers: there a word such as b"all" would need `.as_slice()`.
 pub fn same_word(a: &[u8], b: &[u8]) -> bool
-    ensures answer { result ≡ bytes_eq a.now b.now }
-{
-    equal(a, b)
-}
-
-// Whether the bytes are the same.
-fn equal(a: &[u8], b: &[u8]) -> bool
     ensures answer { result ≡ bytes_eq a.now b.now }
 {
     a == b

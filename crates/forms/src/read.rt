@@ -1,13 +1,15 @@
 //! Reading a text form by form.
 
 ghost use Rattle.std.specs.Prelude.{◌≡◌, ◌≤◌, take, IfOk};
-ghost use Rattle.forms.specs.Forms.{begun, closed, ended, form_reading, item_read, itemized, name_read, named, next_eats, next_form, numbered, opened, start_eats, taken};
+ghost use Rattle.forms.specs.Forms.{TakenBy, begun, closed, ended, form_end, form_reading, item_read, itemized, name_read, named, next_eats, next_form, number_in, numbered, opened, start_eats, taken};
 ghost use Rattle.words.specs.Numbers.{layer_number, reason_number, refused, text_number};
 ghost use Rattle.words.specs.Words.{left, outcome, start, text_limit};
 
-use crate::form::{Forms, Item, LineStart, Name, Next, Numeral};
-use words::{Fault, Layer, Place, Reason, Text, Token, Words};
+use crate::form::{Forms, Item, Name, Next, Numeral};
+use std::ops::Range;
+use words::{Fault, Layer, Place, Placed, Reason, Text, Token, Words};
 
+// The clause `shorter` stands at each step: it tells of two states, and an invariant or a ghost field would tell of one.
 impl<'a> Forms<'a> {
     /// A view over a text from its first byte on; it looks at no byte past the limit.
     pub fn new(bytes: &'a [u8], text: Text) -> Forms<'a>
@@ -30,11 +32,31 @@ impl<'a> Forms<'a> {
         }
     }
 
-    // The fault of a token that may not stand at its place.
-    fn misplaced(&self, place: Place) -> Fault
+    /// The fault of a token that may not stand at its place.
+    pub fn misplaced(&self, place: Place) -> Fault
         ensures answer { refused result ≡ record { number = 4; text = (form_reading self.now).text; layer = 2; place = place } }
     {
         self.fault(Reason::Misplaced, Layer::Forms, place)
+    }
+
+    /// The fault of a token that the limits of the text refuse.
+    pub fn beyond(&self, reason: Reason, place: Place) -> Fault
+        ensures answer { refused result ≡ record { number = reason_number reason; text = (form_reading self.now).text; layer = 3; place = place } }
+    {
+        self.fault(reason, Layer::Limits, place)
+    }
+
+    // What the function picks of the next token; one of which it picks nothing may not stand here.
+    fn take<T, F: FnOnce(Placed<Token<'a>>) -> Option<T>>(&mut self, pick: F) -> Result<T, Fault>
+        requires callable { F.IsAlwaysCallable pick }
+        ensures reads { TakenBy (F.post pick) result (form_reading self.new) (form_reading self.old) }
+        ensures shorter { left self.new.words ≤ left self.old.words }
+    {
+        let t = self.words.next()?;
+        match pick(t) {
+            Some(value) => Ok(value),
+            None => Err(self.misplaced(t.place)),
+        }
     }
 
     /// An opening bracket, by its place.
@@ -42,11 +64,10 @@ impl<'a> Forms<'a> {
         ensures reads { outcome result (form_reading self.new) ≡ taken opened (form_reading self.old) }
         ensures shorter { left self.new.words ≤ left self.old.words }
     {
-        let t = self.words.next()?;
-        match t.token {
-            Token::Open => Ok(t.place),
-            _ => Err(self.misplaced(t.place)),
-        }
+        self.take(|t| match t.value {
+            Token::Open => Some(t.place),
+            _ => None,
+        })
     }
 
     /// A closing bracket, by its place.
@@ -54,11 +75,10 @@ impl<'a> Forms<'a> {
         ensures reads { outcome result (form_reading self.new) ≡ taken closed (form_reading self.old) }
         ensures shorter { left self.new.words ≤ left self.old.words }
     {
-        let t = self.words.next()?;
-        match t.token {
-            Token::Close => Ok(t.place),
-            _ => Err(self.misplaced(t.place)),
-        }
+        self.take(|t| match t.value {
+            Token::Close => Some(t.place),
+            _ => None,
+        })
     }
 
     /// A number, with its place.
@@ -66,13 +86,22 @@ impl<'a> Forms<'a> {
         ensures reads { outcome result (form_reading self.new) ≡ taken numbered (form_reading self.old) }
         ensures shorter { left self.new.words ≤ left self.old.words }
     {
-        let t = self.words.next()?;
-        match t.token {
-            Token::Number(value) => Ok(Numeral {
-                value,
-                place: t.place,
-            }),
-            _ => Err(self.misplaced(t.place)),
+        self.take(|Placed { value, place }| match value {
+            Token::Number(value) => Some(Placed { value, place }),
+            _ => None,
+        })
+    }
+
+    /// A number in the range, which ends below its end.
+    pub fn number_in(&mut self, range: Range<u8>) -> Result<u8, Fault>
+        ensures reads { outcome result (form_reading self.new) ≡ number_in range.start range.end (form_reading self.old) }
+        ensures shorter { left self.new.words ≤ left self.old.words }
+    {
+        let n = self.number()?;
+        if (u16::from(range.start)..u16::from(range.end)).contains(&n.value) {
+            Ok(n.value as u8)
+        } else {
+            Err(self.beyond(Reason::OutOfRange, n.place))
         }
     }
 
@@ -81,14 +110,10 @@ impl<'a> Forms<'a> {
         ensures reads { name_read result (form_reading self.new) ≡ taken named (form_reading self.old) }
         ensures shorter { left self.new.words ≤ left self.old.words }
     {
-        let t = self.words.next()?;
-        match t.token {
-            Token::Word(bytes) => Ok(Name {
-                bytes,
-                place: t.place,
-            }),
-            _ => Err(self.misplaced(t.place)),
-        }
+        self.take(|Placed { value, place }| match value {
+            Token::Word(value) => Some(Placed { value, place }),
+            _ => None,
+        })
     }
 
     /// A word or a number, with its place.
@@ -96,18 +121,11 @@ impl<'a> Forms<'a> {
         ensures reads { item_read result (form_reading self.new) ≡ taken itemized (form_reading self.old) }
         ensures shorter { left self.new.words ≤ left self.old.words }
     {
-        let t = self.words.next()?;
-        match t.token {
-            Token::Word(bytes) => Ok(Item::Name(Name {
-                bytes,
-                place: t.place,
-            })),
-            Token::Number(value) => Ok(Item::Number(Numeral {
-                value,
-                place: t.place,
-            })),
-            _ => Err(self.misplaced(t.place)),
-        }
+        self.take(|Placed { value, place }| match value {
+            Token::Word(value) => Some(Item::Name(Placed { value, place })),
+            Token::Number(value) => Some(Item::Number(Placed { value, place })),
+            _ => None,
+        })
     }
 
     /// The end of the line, or of the text.
@@ -115,38 +133,45 @@ impl<'a> Forms<'a> {
         ensures reads { outcome result (form_reading self.new) ≡ taken ended (form_reading self.old) }
         ensures shorter { left self.new.words ≤ left self.old.words }
     {
-        let t = self.words.next()?;
-        match t.token {
-            Token::LineEnd | Token::TextEnd => Ok(()),
-            _ => Err(self.misplaced(t.place)),
-        }
+        self.take(|t| match t.value {
+            Token::LineEnd | Token::TextEnd => Some(()),
+            _ => None,
+        })
     }
 
-    // How the line begins.
-    fn line_start(&mut self) -> Result<LineStart, Fault>
+    /// The end of a form, and of its line.
+    pub fn form_end(&mut self) -> Result<(), Fault>
+        ensures reads { outcome result (form_reading self.new) ≡ form_end (form_reading self.old) }
+        ensures shorter { left self.new.words ≤ left self.old.words }
+    {
+        self.close()?;
+        self.line_end()
+    }
+
+    // What the line begins with, or none where it has ended and another follows.
+    // Not by `take`: what it picks would be an option of an option, and a step of `take` promises no fall in bytes.
+    fn line_start(&mut self) -> Result<Option<Next>, Fault>
         ensures reads { outcome result (form_reading self.new) ≡ taken begun (form_reading self.old) }
         ensures eats { IfOk result (λ s. start_eats s (left self.new.words) (left self.old.words)) }
     {
         let t = self.words.next()?;
-        match t.token {
-            Token::Open => Ok(LineStart::Form),
-            Token::LineEnd => Ok(LineStart::Blank),
-            Token::TextEnd => Ok(LineStart::End(t.place)),
+        match t.value {
+            Token::Open => Ok(Some(Next::Form)),
+            Token::LineEnd => Ok(None),
+            Token::TextEnd => Ok(Some(Next::End(t.place))),
             _ => Err(self.misplaced(t.place)),
         }
     }
 
     /// The next line that is not blank, past its opening bracket, or the text's end.
+    #[tactic(auto, unfolding(crate::specs::Forms::next_form))]
     pub fn next_form(&mut self) -> Result<Next, Fault>
         ensures reads { outcome result (form_reading self.new) ≡ next_form (form_reading self.old) }
         ensures eats { IfOk result (λ n. next_eats n (left self.new.words) (left self.old.words)) }
     {
         loop {
-            let start = self.line_start()?;
-            match start {
-                LineStart::Form => return Ok(Next::Form),
-                LineStart::Blank => {}
-                LineStart::End(place) => return Ok(Next::End(place)),
+            if let Some(next) = self.line_start()? {
+                return Ok(next);
             }
         }
     }

@@ -21,6 +21,13 @@ behind_push a row = (row ∷ [], refl)
 pub behind_both : (a b c : List Row) → Behind a b → Behind b c → Behind a c
 behind_both a b c (m, e) (n, f) = (m ++ n, f ∙ ap (λ (x : List Row). x ++ n) e ∙ append_assoc a m n)
 
+-- so it is with one row more behind, and behind a second list
+one_behind : (a b : List Row) (row : Row) → Behind a b → Behind a (b ++ row ∷ [])
+one_behind a b row p = behind_both a b (b ++ row ∷ []) p (behind_push b row)
+
+two_behind : (a b c : List Row) (row : Row) → Behind a b → Behind b c → Behind a (c ++ row ∷ [])
+two_behind a b c row p q = behind_both a b (c ++ row ∷ []) p (one_behind b c row q)
+
 pub behind_longer : (a b : List Row) → Behind a b → length a ≤ length b
 behind_longer a b (m, e) = omega (arith, ap length e, length-append a m)
 
@@ -28,20 +35,20 @@ mutual
   pub formula_behind : (x : Formula) (rows : List Row) → Behind rows (with_formula x rows)
   formula_behind never rows = behind_push rows Never
   formula_behind (flag p) rows = behind_push rows (Flag p)
-  formula_behind (negation x) rows = behind_both rows (with_formula x rows) _ (formula_behind x rows) (behind_push (with_formula x rows) _)
-  formula_behind (both x y) rows = behind_both rows (with_formula x rows) _ (formula_behind x rows) (behind_both (with_formula x rows) (with_formula y (with_formula x rows)) _ (formula_behind y (with_formula x rows)) (behind_push _ _))
-  formula_behind (either x y) rows = behind_both rows (with_formula x rows) _ (formula_behind x rows) (behind_both (with_formula x rows) (with_formula y (with_formula x rows)) _ (formula_behind y (with_formula x rows)) (behind_push _ _))
-  formula_behind (implies x y) rows = behind_both rows (with_formula x rows) _ (formula_behind x rows) (behind_both (with_formula x rows) (with_formula y (with_formula x rows)) _ (formula_behind y (with_formula x rows)) (behind_push _ _))
-  formula_behind (box r x) rows = behind_both rows (with_program r rows) _ (program_behind r rows) (behind_both (with_program r rows) (with_formula x (with_program r rows)) _ (formula_behind x (with_program r rows)) (behind_push _ _))
-  formula_behind (diamond r x) rows = behind_both rows (with_program r rows) _ (program_behind r rows) (behind_both (with_program r rows) (with_formula x (with_program r rows)) _ (formula_behind x (with_program r rows)) (behind_push _ _))
+  formula_behind (negation x) rows = one_behind rows (with_formula x rows) _ (formula_behind x rows)
+  formula_behind (both x y) rows = two_behind rows (with_formula x rows) (with_formula y (with_formula x rows)) _ (formula_behind x rows) (formula_behind y (with_formula x rows))
+  formula_behind (either x y) rows = two_behind rows (with_formula x rows) (with_formula y (with_formula x rows)) _ (formula_behind x rows) (formula_behind y (with_formula x rows))
+  formula_behind (implies x y) rows = two_behind rows (with_formula x rows) (with_formula y (with_formula x rows)) _ (formula_behind x rows) (formula_behind y (with_formula x rows))
+  formula_behind (box r x) rows = two_behind rows (with_program r rows) (with_formula x (with_program r rows)) _ (program_behind r rows) (formula_behind x (with_program r rows))
+  formula_behind (diamond r x) rows = two_behind rows (with_program r rows) (with_formula x (with_program r rows)) _ (program_behind r rows) (formula_behind x (with_program r rows))
 
   pub program_behind : (r : Program) (rows : List Row) → Behind rows (with_program r rows)
   program_behind (command a) rows = behind_push rows (Command a)
-  program_behind (sequence r s) rows = behind_both rows (with_program r rows) _ (program_behind r rows) (behind_both (with_program r rows) (with_program s (with_program r rows)) _ (program_behind s (with_program r rows)) (behind_push _ _))
-  program_behind (choice r s) rows = behind_both rows (with_program r rows) _ (program_behind r rows) (behind_both (with_program r rows) (with_program s (with_program r rows)) _ (program_behind s (with_program r rows)) (behind_push _ _))
-  program_behind (repetition r) rows = behind_both rows (with_program r rows) _ (program_behind r rows) (behind_push (with_program r rows) _)
-  program_behind (converse r) rows = behind_both rows (with_program r rows) _ (program_behind r rows) (behind_push (with_program r rows) _)
-  program_behind (test x) rows = behind_both rows (with_formula x rows) _ (formula_behind x rows) (behind_push (with_formula x rows) _)
+  program_behind (sequence r s) rows = two_behind rows (with_program r rows) (with_program s (with_program r rows)) _ (program_behind r rows) (program_behind s (with_program r rows))
+  program_behind (choice r s) rows = two_behind rows (with_program r rows) (with_program s (with_program r rows)) _ (program_behind r rows) (program_behind s (with_program r rows))
+  program_behind (repetition r) rows = one_behind rows (with_program r rows) _ (program_behind r rows)
+  program_behind (converse r) rows = one_behind rows (with_program r rows) _ (program_behind r rows)
+  program_behind (test x) rows = one_behind rows (with_formula x rows) _ (formula_behind x rows)
 
 -- what a row stands for stays where rows are put behind
 pub formula_still : (a b : List Row) (i : ℕ) (x : Formula) → Behind a b → FormulaRow a i x → FormulaRow b i x
@@ -52,10 +59,10 @@ program_still a b i r (m, e) h = subst (λ (z : List Row). ProgramRow z i r) (sy
 
 -- a part's last row, under a row that was put behind
 formula_part : (a b : List Row) (row : Row) (x : Formula) → Behind a b → FormulaRow a (last a) x → FormulaRow (b ++ row ∷ []) (last a) x
-formula_part a b row x p = formula_still a (b ++ row ∷ []) (last a) x (behind_both a b (b ++ row ∷ []) p (behind_push b row))
+formula_part a b row x p = formula_still a (b ++ row ∷ []) (last a) x (one_behind a b row p)
 
 program_part : (a b : List Row) (row : Row) (r : Program) → Behind a b → ProgramRow a (last a) r → ProgramRow (b ++ row ∷ []) (last a) r
-program_part a b row r p = program_still a (b ++ row ∷ []) (last a) r (behind_both a b (b ++ row ∷ []) p (behind_push b row))
+program_part a b row r p = program_still a (b ++ row ∷ []) (last a) r (one_behind a b row p)
 
 -- the row that was put behind is the last
 last_is : (a : List Row) (row : Row) → RowIs (a ++ row ∷ []) (last (a ++ row ∷ [])) row

@@ -9,16 +9,17 @@ use Rattle.words.specs.Words.{Tok, word, number, opens, closes, line_end, text_e
 use Rattle.words.proofs.Tokens.{Reads, reads_token, first_read}
 use Rattle.forms.specs.declared.form.Next.{Next}
 use Rattle.forms.specs.declared.form.Next.TheVariants.{Form, End}
-use Rattle.forms.specs.Forms.{ItemAt, item_name, item_number, closed, ended, itemized, named, next_form, taken}
+use Rattle.forms.specs.Forms.{ItemAt, item_name, item_number, form_end, itemized, named, next_form, taken}
 use Rattle.forms.specs.Lines.{Lines}
-use Rattle.forms.proofs.Spelled.{After, closed_from_reads, reads_from_closed, named_from_reads, reads_from_named, ended_from_reads, reads_from_ended, form_from_reads, reads_from_form, end_from_reads, reads_from_end}
+use Rattle.forms.proofs.Steps.{good_value, good_reading, form_end_from_reads, reads_from_form_end}
+use Rattle.forms.proofs.Spelled.{After, named_from_reads, reads_from_named, form_from_reads, reads_from_form, end_from_reads, reads_from_end}
 use Rattle.logic.specs.declared.row.Claim.{Claim}
 use Rattle.logic.specs.declared.row.Row.{Row}
 use Rattle.logic.specs.declared.row.Scope.{Scope}
 use Rattle.logic.specs.declared.row.Scope.TheVariants as scope
-use Rattle.sheet.specs.Reading.{State, Step, done, failed, then, lifted, claim_word, scope_of, scope_at, form_end, formula_at, claim_form, claim_line, claim_at}
+use Rattle.sheet.specs.Reading.{State, Step, done, failed, then, lifted, claim_word, scope_of, scope_at, formula_at, claim_form, claim_line, claim_at}
 use Rattle.sheet.specs.Grammar.{last, with_formula, formula_tokens, formula_depth, FormulaFits, Sentence, SentenceFits, ScopeFits, scope_token, claim_tokens}
-use Rattle.sheet.proofs.Steps.{failed_not_done, done_value, done_state, then_parts, lifted_parts, cond_done, Before}
+use Rattle.sheet.proofs.Steps.{done_value, done_state, then_parts, lifted_parts, cond_done, Before}
 use Rattle.sheet.proofs.TreesMade.{formula_made}
 use Rattle.sheet.proofs.TreesRead.{formula_read}
 
@@ -33,7 +34,7 @@ then_done f e = ap (λ o. then o f) e
 -- a test that did not refuse
 cond_passed : {A : Type 0} (b : Bool) (x : Step A) (r : Refused) (a : A) (t : State) → cond b x (failed r) ≡ done a t → (b ≡ true) × (x ≡ done a t)
 cond_passed true x r a t e = (refl, e)
-cond_passed false x r a t e = absurd (failed_not_done e)
+cond_passed false x r a t e = cc
 
 -- the word of a claim
 word_made : (claims : List Claim) (s : State) (ts : List Tok) → length claims < 16 → Reads s.at (word (codes "claim") ∷ ts) → (q : Reading) × (claim_word claims s ≡ done tt (state q s.rows)) × Reads q ts
@@ -56,29 +57,20 @@ abbrev item_token : ItemAt → Tok
 item_token (item_name w) = word w.bytes
 item_token (item_number n) = number n.value
 
-bad_not_good : {A : Type 0} {e : Refused} {a : A} {q : Reading} → bad e ≡ good a q → ⊥
-bad_not_good h = let z : ◌≡◌ {A = ℕ} 0 1 = cc in omega arith
-
-good_value : {A : Type 0} {a b : A} {p q : Reading} → good a p ≡ good b q → a ≡ b
-good_value h = cc
-
-good_reading : {A : Type 0} {a b : A} {p q : Reading} → good a p ≡ good b q → p ≡ q
-good_reading h = cc
-
 reads_from_itemized : (p q : Reading) (i : ItemAt) (ts : List Tok) → taken itemized p ≡ good i q → Reads q ts → Reads p (item_token i ∷ ts)
 reads_from_itemized p q i ts e r = go (next_token p) refl e
   where
     by : (t : Tok) (at : Place) (u : Reading) → next_token p ≡ good (record { tok = t; place = at }) u → itemized t at u ≡ good i q → Reads p (item_token i ∷ ts)
     by (word w) at u n f = subst (λ (z : ItemAt). Reads p (item_token z ∷ ts)) (good_value f) (reads_token n tt (subst (λ (z : Reading). Reads z ts) (sym (good_reading f)) r))
     by (number m) at u n f = subst (λ (z : ItemAt). Reads p (item_token z ∷ ts)) (good_value f) (reads_token n tt (subst (λ (z : Reading). Reads z ts) (sym (good_reading f)) r))
-    by opens at u n f = absurd (bad_not_good f)
-    by closes at u n f = absurd (bad_not_good f)
-    by line_end at u n f = absurd (bad_not_good f)
-    by text_end at u n f = absurd (bad_not_good f)
+    by opens at u n f = cc
+    by closes at u n f = cc
+    by line_end at u n f = cc
+    by text_end at u n f = cc
 
     go : (o : Out TokenAt) → next_token p ≡ o → bind o (λ t q. itemized t.tok t.place q) ≡ good i q → Reads p (item_token i ∷ ts)
     go (good t u) n f = by t.tok t.place u n f
-    go (bad x) n f = absurd (bad_not_good f)
+    go (bad x) n f = cc
 
 scope_of_parts : (i : ItemAt) (s t : State) (x : Scope) → scope_of i s ≡ done x t → (item_token i ≡ scope_token x) × ScopeFits x × (s ≡ t)
 scope_of_parts (item_name w) s t x e =
@@ -105,27 +97,20 @@ scope_made (scope.Mode u) s ts fits r =
     (q, rw (e, t) refl, more)
 
 -- the end of a form and of its line
-end_made : (s : State) (ts : List Tok) (forms : List (List Tok)) → Reads s.at (closes ∷ ts) → After ts forms → (q : Reading) × (us : List Tok) × (form_end s ≡ done tt (state q s.rows)) × Reads q us × Lines us forms
+end_made : (s : State) (ts : List Tok) (forms : List (List Tok)) → Reads s.at (closes ∷ ts) → After ts forms → (q : Reading) × (us : List Tok) × (lifted (form_end s.at) s ≡ done tt (state q s.rows)) × Reads q us × Lines us forms
 end_made s ts forms r a =
-    let (q, at, e, more) = closed_from_reads r in
-    let (x, us, f, t, l) = ended_from_reads more a in
-    (x, us, rw (e, f) refl, t, l)
+    let (q, us, e, more, lines) = form_end_from_reads r a in
+    (q, us, rw e refl, more, lines)
 
-end_parts : (s t : State) (x : Unit {0}) → form_end s ≡ done x t → (t.rows ≡ s.rows) × ((us : List Tok) (forms : List (List Tok)) → Reads t.at us → Lines us forms → (ts : List Tok) × Reads s.at (closes ∷ ts) × After ts forms)
+end_parts : (s t : State) (x : Unit {0}) → lifted (form_end s.at) s ≡ done x t → (t.rows ≡ s.rows) × ((us : List Tok) (forms : List (List Tok)) → Reads t.at us → Lines us forms → (ts : List Tok) × Reads s.at (closes ∷ ts) × After ts forms)
 end_parts s t x e =
-    let (m, u, e1, f1) = then_parts (lifted (taken closed s.at) s) (λ _ s. lifted (taken ended s.at) s) x t e in
-    let (o, same) = lifted_parts (taken closed s.at) s m u e1 in
-    let (n, still) = lifted_parts (taken ended u.at) u x t f1 in (
-      still ∙ same,
-      (λ us forms r l.
-          let (ts, more, after) = reads_from_ended n r l in
-          (ts, reads_from_closed o more, after)),
-    )
+    let (o, same) = lifted_parts (form_end s.at) s x t e in
+    (same, λ us forms r lines. reads_from_form_end o r lines)
 
 -- a claim, where so many brackets may be opened
 abbrev claim_within : ℕ → List Claim → State → Step Claim
 claim_within d claims s =
-    then (claim_word claims s) (λ _ s. then (scope_at s) (λ scope s. then (formula_at d s) (λ row s. then (form_end s) (λ _ s. done (record { scope = scope; row = row }) s))))
+    then (claim_word claims s) (λ _ s. then (scope_at s) (λ scope s. then (formula_at d s) (λ row s. then (lifted (form_end s.at) s) (λ _ s. done (record { scope = scope; row = row }) s))))
 
 -- the claim that a sentence makes after these rows
 abbrev pub claim_of : Sentence → List Row → Claim
@@ -164,7 +149,7 @@ form_read d claims c s t e =
     let (x, s1, e1, f1) = then_parts (claim_word claims s) _ c t e in
     let (names, s2, e2, f2) = then_parts (scope_at s1) _ c t f1 in
     let (i, s3, e3, f3) = then_parts (formula_at d s2) _ c t f2 in
-    let (y, s4, e4, f4) = then_parts (form_end s3) _ c t f3 in
+    let (y, s4, e4, f4) = then_parts (lifted (form_end s3.at) s3) _ c t f3 in
     let (b1, k1, room) = word_parts claims s s1 x e1 in
     let (fits, b2, k2) = scope_parts s1 s2 names e2 in
     let z = formula_read d s2 s3 i e3 in

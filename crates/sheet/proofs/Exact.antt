@@ -4,7 +4,7 @@ use Rattle.std.proofs.lemmas.List.{length-map, length_push}
 use Rattle.std.proofs.lemmas.Bool.{ltb-false, lt-ltb}
 use Rattle.std.specs.List.{AllByRecursion}
 use Rattle.words.specs.declared.fault.Fault.{Fault}
-use Rattle.words.specs.Numbers.{Refused}
+use Rattle.words.specs.Numbers.{Refused, before_text}
 use Rattle.words.specs.Words.{Tok, Reading, start}
 use Rattle.words.proofs.Tokens.{Reads, reads_from_spells, spells_from_reads, length_reads}
 use Rattle.forms.specs.Lines.{Lines}
@@ -17,12 +17,12 @@ use Rattle.logic.specs.declared.row.Row.{Row}
 use Rattle.logic.specs.declared.row.Scope.{Scope}
 use Rattle.logic.specs.declared.sheet.Sheet.{Sheet}
 use Rattle.logic.proofs.Rows.{formula_same}
-use Rattle.sheet.specs.Reading.{State, Step, done, failed, accepts, refuses, answered, answer_by, before_text, begun, sheet_answer, sheet_over, claim_at, and_more, within_claims, claims_from}
+use Rattle.sheet.specs.Reading.{State, Step, done, failed, accepts, refuses, answered, answer_by, begun, sheet_answer, sheet_over, claim_at, and_more, within_claims, claims_from}
 use Rattle.sheet.specs.Grammar.{last, with_formula, Sentence, SentenceFits, claim_tokens, rows_after, claims_after, IsSheet, SheetRead, ClaimsStand, ReadsExactly}
 use Rattle.logic.specs.Rows.{Orderly}
 use Rattle.sheet.proofs.Ordered.{sheet_orderly, claims_stand}
 use Rattle.sheet.proofs.Added.{behind_longer, rows_behind, formula_still, formula_stands}
-use Rattle.sheet.proofs.Steps.{failed_not_done, done_value, done_state, then_parts}
+use Rattle.sheet.proofs.Steps.{done_value, done_state, then_parts}
 use Rattle.sheet.proofs.ClaimsRead.{state, then_done, claim_of, claim_made, no_claim_made, LineRead, claim_read}
 use Rattle.sheet.proofs.Whole.{answer_over}
 
@@ -99,7 +99,7 @@ more_read k claims (Some c) all s u t room few others line e =
     }
 
 claims_read : (k : ℕ) (claims all : List Claim) (s t : State) → length claims ≤ 16 → length s.rows ≤ 48 → within_claims k claims s ≡ done all t → AllRead claims all s t
-claims_read zero claims all s t room few e = absurd (failed_not_done e)
+claims_read zero claims all s t room few e = cc
 claims_read (suc k) claims all s t room few e =
     let (o, u, f, g) = then_parts (claim_at claims s) (and_more (within_claims k) claims) all t e in
     more_read k claims o all s u t room few (claims_read k) (claim_read claims o s u f) g
@@ -115,8 +115,8 @@ sheet_made text xs is =
 -- the same rows and claims are those of the same sentences
 sentences_same : (rows : List Row) (xs ys : List Sentence) (a b : List Row) → rows_after xs a ≡ rows → rows_after ys b ≡ rows → claims_after xs a ≡ claims_after ys b → xs ≡ ys
 sentences_same rows [] [] a b e f h = refl
-sentences_same rows [] (y ∷ ys) a b e f h = absurd (omega (arith, ap length h))
-sentences_same rows (x ∷ xs) [] a b e f h = absurd (omega (arith, ap length h))
+sentences_same rows [] (y ∷ ys) a b e f h = cc
+sentences_same rows (x ∷ xs) [] a b e f h = cc
 sentences_same rows (x ∷ xs) (y ∷ ys) a b e f h =
     let c = with_formula x.formula a in
     let d = with_formula y.formula b in
@@ -133,7 +133,7 @@ sentences_same rows (x ∷ xs) (y ∷ ys) a b e f h =
     ∙ ap (λ (z : List Sentence). y ∷ z) rest
 
 accepts_not_refuses : {a b : List Row} {c d : List Claim} {e : Refused} → accepts a c ≡ refuses e b d → ⊥
-accepts_not_refuses h = let z : ◌≡◌ {A = ℕ} 0 1 = cc in omega arith
+accepts_not_refuses h = cc
 
 -- a text that was read is a sheet's
 sheet_read : (text : List ℕ) (rows : List Row) (claims : List Claim) (o : Step (List Claim)) → length text ≤ 32768 → claims_from [] (begun text) ≡ o → accepts rows claims ≡ sheet_over o → SheetRead text rows claims
@@ -165,11 +165,11 @@ sheet_read text rows claims (done all t) short e h =
           subst (λ (z : List Row). ClaimsStand z claims x.sentences) (sym (left ∙ x.rows))
           (subst (λ (z : List Claim). ClaimsStand (rows_after x.sentences []) z x.sentences) (sym (right ∙ x.made)) (claims_stand x.sentences []));
     }
-sheet_read text rows claims (failed r) short e h = absurd (accepts_not_refuses h)
+sheet_read text rows claims (failed r) short e h = cc
 
 -- an answer that is no refusal came from the text
-accepted : (text : List ℕ) (before rows : List Row) (was claims : List Claim) (long : Bool) → ltb 32768 (length text) ≡ long → accepts rows claims ≡ answer_by text before was (cond long (Some (before_text 10)) None) → SheetRead text rows claims
-accepted text before rows was claims true f h = absurd (accepts_not_refuses h)
+accepted : (text : List ℕ) (before rows : List Row) (was claims : List Claim) (long : Bool) → ltb 32768 (length text) ≡ long → accepts rows claims ≡ answer_by text before was (cond long (Some (before_text 2 10)) None) → SheetRead text rows claims
+accepted text before rows was claims true f h = cc
 accepted text before rows was claims false f h = sheet_read text rows claims (claims_from [] (begun text)) (ltb-false 32768 (length text) f) refl h
 
 pub reads_exactly : (text : List ℕ) (rows : List Row) (claims : List Claim) (r : Result (Unit {0}) Fault) (s : Sheet) → answered r s ≡ sheet_answer text rows claims → ReadsExactly text r (sheet_rows s) (sheet_claims s)

@@ -1,6 +1,5 @@
 -- The laws of this crate's definitions.
 pub mod Opens
-pub mod Turns
 pub mod Whole
 pub mod Added
 pub mod Steps

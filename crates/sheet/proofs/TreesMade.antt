@@ -7,7 +7,7 @@ use Rattle.words.proofs.Tokens.{Reads}
 use Rattle.logic.specs.Trees.{Formula, Program, never, flag, negation, both, either, implies, box, diamond, command, sequence, choice, repetition, converse, test}
 use Rattle.logic.specs.declared.row.Row.{Row}
 use Rattle.logic.specs.declared.row.Row.TheVariants.{Never, Flag, Not, Both, Either, Implies, Box, Diamond, Command, Sequence, Choice, Repetition, Converse, Test}
-use Rattle.sheet.specs.declared.reader.Letter.{Letter}
+use Rattle.words.specs.declared.token.Placed.{Placed}
 use Rattle.sheet.specs.Reading.{State, Step, done, then, number_below, one, two, formula_row, program_row, formula_at, program_at}
 use Rattle.sheet.specs.Grammar.{last, over_one, over_two, with_formula, with_program, formula_tokens, program_tokens, formula_depth, program_depth, FormulaFits, ProgramFits}
 use Rattle.sheet.proofs.Added.{formula_behind, program_behind, behind_longer}
@@ -18,26 +18,26 @@ use Rattle.graph.specs.Meaning.{command_limit, flag_limit}
 abbrev pub Made : (State → Step ℕ) → List Tok → (List Row → List Row) → List Tok → Type 0
 Made f front adds ts = (s : State) → Reads s.at (front ++ ts) → length (adds s.rows) ≤ 48 → (q : Reading) × (f s ≡ done (last (adds s.rows)) (record { at = q; rows = adds s.rows })) × Reads q ts
 
-module _ (body : Letter → State → Step Row) (k : ℕ) (ts : List Tok) where
+module _ (body : Placed ℕ → State → Step Row) (k : ℕ) (ts : List Tok) where
   -- a row without parts
-  leaf_made : (row : Row) → ((at : Place) (s : State) → body (record { letter = k; place = at }) s ≡ done row s) → Made (brackets body) (opens ∷ (word (k ∷ []) ∷ (closes ∷ []))) (λ rows. rows ++ row ∷ []) ts
+  leaf_made : (row : Row) → ((at : Place) (s : State) → body (record { value = k; place = at }) s ≡ done row s) → Made (brackets body) (opens ∷ (word (k ∷ []) ∷ (closes ∷ []))) (λ rows. rows ++ row ∷ []) ts
   leaf_made row is s r few = brackets_made body k s (closes ∷ ts) ts s.rows row r few (λ at p inside. (p, is at (record { at = p; rows = s.rows }), inside))
 
   -- a row with a number
-  counted_made : (limit n : ℕ) (row : ℕ → Row) → n < limit → ((at : Place) (s : State) → body (record { letter = k; place = at }) s ≡ one (number_below limit) row s) → Made (brackets body) (opens ∷ (word (k ∷ []) ∷ (number n ∷ (closes ∷ [])))) (λ rows. rows ++ row n ∷ []) ts
+  counted_made : (limit n : ℕ) (row : ℕ → Row) → n < limit → ((at : Place) (s : State) → body (record { value = k; place = at }) s ≡ one (number_below limit) row s) → Made (brackets body) (opens ∷ (word (k ∷ []) ∷ (number n ∷ (closes ∷ [])))) (λ rows. rows ++ row n ∷ []) ts
   counted_made limit n row low is s r few = brackets_made body k s (number n ∷ (closes ∷ ts)) ts s.rows (row n) r few (λ at p inside.
       let (q, e, more) = number_made limit n (record { at = p; rows = s.rows }) (closes ∷ ts) low inside in
       (q, is at (record { at = p; rows = s.rows }) ∙ ap (λ (o : Step ℕ). then o (λ x s. done (row x) s)) e, more))
 
   -- a row with one part
-  one_made : (f : State → Step ℕ) (front : List Tok) (adds : List Row → List Row) (row : ℕ → Row) → ((at : Place) (s : State) → body (record { letter = k; place = at }) s ≡ one f row s) → Made f front adds (closes ∷ ts) → Made (brackets body) (opens ∷ (word (k ∷ []) ∷ (front ++ closes ∷ []))) (λ rows. over_one row (adds rows)) ts
+  one_made : (f : State → Step ℕ) (front : List Tok) (adds : List Row → List Row) (row : ℕ → Row) → ((at : Place) (s : State) → body (record { value = k; place = at }) s ≡ one f row s) → Made f front adds (closes ∷ ts) → Made (brackets body) (opens ∷ (word (k ∷ []) ∷ (front ++ closes ∷ []))) (λ rows. over_one row (adds rows)) ts
   one_made f front adds row is part s r few = brackets_made body k s ((front ++ closes ∷ []) ++ ts) ts (adds s.rows) (row (last (adds s.rows))) r few (λ at p inside.
       let long = length_push (adds s.rows) (row (last (adds s.rows))) in
       let (q, e, more) = part (record { at = p; rows = s.rows }) (subst (Reads p) (append_assoc front (closes ∷ []) ts) inside) (omega arith) in
       (q, is at (record { at = p; rows = s.rows }) ∙ ap (λ (o : Step ℕ). then o (λ x s. done (row x) s)) e, more))
 
   -- a row with two parts
-  two_made : (f g : State → Step ℕ) (front next : List Tok) (adds more : List Row → List Row) (row : ℕ → ℕ → Row) → ((at : Place) (s : State) → body (record { letter = k; place = at }) s ≡ two f g row s) → ((rows : List Row) → length rows ≤ length (more rows)) → Made f front adds (next ++ closes ∷ ts) → Made g next more (closes ∷ ts) → Made (brackets body) (opens ∷ (word (k ∷ []) ∷ (front ++ (next ++ closes ∷ [])))) (λ rows. over_two row (adds rows) more) ts
+  two_made : (f g : State → Step ℕ) (front next : List Tok) (adds more : List Row → List Row) (row : ℕ → ℕ → Row) → ((at : Place) (s : State) → body (record { value = k; place = at }) s ≡ two f g row s) → ((rows : List Row) → length rows ≤ length (more rows)) → Made f front adds (next ++ closes ∷ ts) → Made g next more (closes ∷ ts) → Made (brackets body) (opens ∷ (word (k ∷ []) ∷ (front ++ (next ++ closes ∷ [])))) (λ rows. over_two row (adds rows) more) ts
   two_made f g front next adds more row is longer first second s r few =
       let a = adds s.rows in
       let b = more a in

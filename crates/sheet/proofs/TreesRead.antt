@@ -5,7 +5,7 @@ use Rattle.words.proofs.Tokens.{Reads}
 use Rattle.logic.specs.Trees.{Formula, Program, never, flag, negation, both, either, implies, box, diamond, command, sequence, choice, repetition, converse, test}
 use Rattle.logic.specs.declared.row.Row.{Row}
 use Rattle.logic.specs.declared.row.Row.TheVariants.{Never, Flag, Not, Both, Either, Implies, Box, Diamond, Command, Sequence, Choice, Repetition, Converse, Test}
-use Rattle.sheet.specs.declared.reader.Letter.{Letter}
+use Rattle.words.specs.declared.token.Placed.{Placed}
 use Rattle.sheet.specs.Reading.{State, Step, done, then, number_below, bracket_at, letter_at, close_at, one, two, formula_row, program_row, formula_inside, program_inside, formula_at, program_at}
 use Rattle.sheet.specs.Grammar.{last, over_one, over_two, with_formula, with_program, formula_tokens, program_tokens, formula_depth, program_depth, FormulaFits, ProgramFits}
 use Rattle.sheet.proofs.Steps.{failed_not_done, done_value, done_state, then_parts, letter_case, Before, bracket_parts, letter_parts, number_parts, close_parts, brackets}
@@ -44,7 +44,7 @@ record Inside (S : Sort) (d k : ℕ) (s u : State) (row : Row) : Type 0 where
   reads : (ts : List Tok) → Reads u.at (closes ∷ ts) → (us : List Tok) × (opens ∷ (word (k ∷ []) ∷ us) ≡ S.tokens tree ++ ts) × Reads s.at us
   rows : u.rows ++ row ∷ [] ≡ S.adds tree s.rows
 
-brackets_found : (S : Sort) (d : ℕ) (body : Letter → State → Step Row) → ((h : Letter) (s u : State) (row : Row) → body h s ≡ done row u → Inside S d h.letter s u row) → Finds S d (brackets body)
+brackets_found : (S : Sort) (d : ℕ) (body : Placed ℕ → State → Step Row) → ((h : Placed ℕ) (s u : State) (row : Row) → body h s ≡ done row u → Inside S d h.value s u row) → Finds S d (brackets body)
 brackets_found S d body each s t i e =
     let (m, a, e1, f1) = then_parts (bracket_at s) (λ m s. then (then (letter_at s) body) close_at) i t e in
     let (row, u, e2, f2) = then_parts (then (letter_at a) body) close_at i t f1 in
@@ -58,7 +58,7 @@ brackets_found S d body each s t i e =
       fits = x.fits;
       reads = λ ts r.
           let (us, is, inside) = x.reads ts (cl.reads ts r) in
-          subst (Reads s.at) is (op (word (h.letter ∷ []) ∷ us) (le us inside));
+          subst (Reads s.at) is (op (word (h.value ∷ []) ∷ us) (le us inside));
       rows = cl.rows ∙ x.rows ∙ ap (S.adds x.tree) (rb ∙ ra);
       number = cl.number;
       few = cl.few;
@@ -138,32 +138,32 @@ two_found A B S d k f g tree row finds more fits spelled rows s u made e =
           ∙ rows x.tree y.tree s.rows;
     }
 
-module _ (d : ℕ) (f g : State → Step ℕ) (finds : Finds formulas d f) (finds_program : Finds programs d g) (h : Letter) (s u : State) (row : Row) where
+module _ (d : ℕ) (f g : State → Step ℕ) (finds : Finds formulas d f) (finds_program : Finds programs d g) (h : Placed ℕ) (s u : State) (row : Row) where
   -- by the letter that was read
-  by : (S : Sort) (k : ℕ) → h.letter ≡ k → Inside S (suc d) k s u row → Inside S (suc d) h.letter s u row
+  by : (S : Sort) (k : ℕ) → h.value ≡ k → Inside S (suc d) k s u row → Inside S (suc d) h.value s u row
   by S k e = subst (λ (n : ℕ). Inside S (suc d) n s u row) (sym e)
 
-  formula_letters : formula_row f g h s ≡ done row u → Inside formulas (suc d) h.letter s u row
+  formula_letters : formula_row f g h s ≡ done row u → Inside formulas (suc d) h.value s u row
   formula_letters =
-      letter_case h.letter 79 _ _ _ (λ l e. by formulas 79 l (leaf_found formulas (suc d) 79 never Never (omega arith, tt) refl (λ rows. refl) s u row e)) (
-      letter_case h.letter 80 _ _ _ (λ l e. by formulas 80 l (counted_found formulas (suc d) 80 flag_limit flag Flag (λ n low. (omega arith, low)) (λ n. refl) (λ n rows. refl) s u row e)) (
-      letter_case h.letter 78 _ _ _ (λ l e. by formulas 78 l (one_found formulas formulas d 78 f negation Not finds (λ x p. (omega arith, p.1)) (λ x. refl) (λ x rows. refl) s u row e)) (
-      letter_case h.letter 75 _ _ _ (λ l e. by formulas 75 l (two_found formulas formulas formulas d 75 f f both Both finds finds (λ x y p q. (omega arith, (p.1, q.1))) (λ x y. refl) (λ x y rows. refl) s u row e)) (
-      letter_case h.letter 65 _ _ _ (λ l e. by formulas 65 l (two_found formulas formulas formulas d 65 f f either Either finds finds (λ x y p q. (omega arith, (p.1, q.1))) (λ x y. refl) (λ x y rows. refl) s u row e)) (
-      letter_case h.letter 67 _ _ _ (λ l e. by formulas 67 l (two_found formulas formulas formulas d 67 f f implies Implies finds finds (λ x y p q. (omega arith, (p.1, q.1))) (λ x y. refl) (λ x y rows. refl) s u row e)) (
-      letter_case h.letter 76 _ _ _ (λ l e. by formulas 76 l (two_found programs formulas formulas d 76 g f box Box finds_program finds (λ x y p q. (omega arith, (p.1, q.1))) (λ x y. refl) (λ x y rows. refl) s u row e)) (
-      letter_case h.letter 77 _ _ _ (λ l e. by formulas 77 l (two_found programs formulas formulas d 77 g f diamond Diamond finds_program finds (λ x y p q. (omega arith, (p.1, q.1))) (λ x y. refl) (λ x y rows. refl) s u row e)) (
-      λ e. absurd (failed_not_done e)))))))))
+      letter_case h.value 79 _ _ _ (λ l e. by formulas 79 l (leaf_found formulas (suc d) 79 never Never (omega arith, tt) refl (λ rows. refl) s u row e)) (
+      letter_case h.value 80 _ _ _ (λ l e. by formulas 80 l (counted_found formulas (suc d) 80 flag_limit flag Flag (λ n low. (omega arith, low)) (λ n. refl) (λ n rows. refl) s u row e)) (
+      letter_case h.value 78 _ _ _ (λ l e. by formulas 78 l (one_found formulas formulas d 78 f negation Not finds (λ x p. (omega arith, p.1)) (λ x. refl) (λ x rows. refl) s u row e)) (
+      letter_case h.value 75 _ _ _ (λ l e. by formulas 75 l (two_found formulas formulas formulas d 75 f f both Both finds finds (λ x y p q. (omega arith, (p.1, q.1))) (λ x y. refl) (λ x y rows. refl) s u row e)) (
+      letter_case h.value 65 _ _ _ (λ l e. by formulas 65 l (two_found formulas formulas formulas d 65 f f either Either finds finds (λ x y p q. (omega arith, (p.1, q.1))) (λ x y. refl) (λ x y rows. refl) s u row e)) (
+      letter_case h.value 67 _ _ _ (λ l e. by formulas 67 l (two_found formulas formulas formulas d 67 f f implies Implies finds finds (λ x y p q. (omega arith, (p.1, q.1))) (λ x y. refl) (λ x y rows. refl) s u row e)) (
+      letter_case h.value 76 _ _ _ (λ l e. by formulas 76 l (two_found programs formulas formulas d 76 g f box Box finds_program finds (λ x y p q. (omega arith, (p.1, q.1))) (λ x y. refl) (λ x y rows. refl) s u row e)) (
+      letter_case h.value 77 _ _ _ (λ l e. by formulas 77 l (two_found programs formulas formulas d 77 g f diamond Diamond finds_program finds (λ x y p q. (omega arith, (p.1, q.1))) (λ x y. refl) (λ x y rows. refl) s u row e)) (
+      λ e. cc))))))))
 
-  program_letters : program_row f g h s ≡ done row u → Inside programs (suc d) h.letter s u row
+  program_letters : program_row f g h s ≡ done row u → Inside programs (suc d) h.value s u row
   program_letters =
-      letter_case h.letter 100 _ _ _ (λ l e. by programs 100 l (counted_found programs (suc d) 100 command_limit command Command (λ n low. (omega arith, low)) (λ n. refl) (λ n rows. refl) s u row e)) (
-      letter_case h.letter 115 _ _ _ (λ l e. by programs 115 l (two_found programs programs programs d 115 g g sequence Sequence finds_program finds_program (λ x y p q. (omega arith, (p.1, q.1))) (λ x y. refl) (λ x y rows. refl) s u row e)) (
-      letter_case h.letter 117 _ _ _ (λ l e. by programs 117 l (two_found programs programs programs d 117 g g choice Choice finds_program finds_program (λ x y p q. (omega arith, (p.1, q.1))) (λ x y. refl) (λ x y rows. refl) s u row e)) (
-      letter_case h.letter 114 _ _ _ (λ l e. by programs 114 l (one_found programs programs d 114 g repetition Repetition finds_program (λ x p. (omega arith, p.1)) (λ x. refl) (λ x rows. refl) s u row e)) (
-      letter_case h.letter 98 _ _ _ (λ l e. by programs 98 l (one_found programs programs d 98 g converse Converse finds_program (λ x p. (omega arith, p.1)) (λ x. refl) (λ x rows. refl) s u row e)) (
-      letter_case h.letter 116 _ _ _ (λ l e. by programs 116 l (one_found formulas programs d 116 f test Test finds (λ x p. (omega arith, p.1)) (λ x. refl) (λ x rows. refl) s u row e)) (
-      λ e. absurd (failed_not_done e)))))))
+      letter_case h.value 100 _ _ _ (λ l e. by programs 100 l (counted_found programs (suc d) 100 command_limit command Command (λ n low. (omega arith, low)) (λ n. refl) (λ n rows. refl) s u row e)) (
+      letter_case h.value 115 _ _ _ (λ l e. by programs 115 l (two_found programs programs programs d 115 g g sequence Sequence finds_program finds_program (λ x y p q. (omega arith, (p.1, q.1))) (λ x y. refl) (λ x y rows. refl) s u row e)) (
+      letter_case h.value 117 _ _ _ (λ l e. by programs 117 l (two_found programs programs programs d 117 g g choice Choice finds_program finds_program (λ x y p q. (omega arith, (p.1, q.1))) (λ x y. refl) (λ x y rows. refl) s u row e)) (
+      letter_case h.value 114 _ _ _ (λ l e. by programs 114 l (one_found programs programs d 114 g repetition Repetition finds_program (λ x p. (omega arith, p.1)) (λ x. refl) (λ x rows. refl) s u row e)) (
+      letter_case h.value 98 _ _ _ (λ l e. by programs 98 l (one_found programs programs d 98 g converse Converse finds_program (λ x p. (omega arith, p.1)) (λ x. refl) (λ x rows. refl) s u row e)) (
+      letter_case h.value 116 _ _ _ (λ l e. by programs 116 l (one_found formulas programs d 116 f test Test finds (λ x p. (omega arith, p.1)) (λ x. refl) (λ x rows. refl) s u row e)) (
+      λ e. cc))))))
 
 -- with no bracket left none is opened
 none_left : {A : Type 0} (o : Step A) (i : ℕ) (t : State) (f : A → State → Step ℕ) → ((a : A) (s : State) → f a s ≡ done i t → ⊥) → then o f ≡ done i t → ⊥

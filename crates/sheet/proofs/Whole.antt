@@ -1,29 +1,28 @@
 -- From the claims of a text to the whole sheet.
-use Rattle.std.proofs.Common.{◌≡◌, ℕ, ◌≤◌, List, [], length, take, Ok, Err, Result, refl, ap, ◌∙◌}
+use Rattle.std.proofs.Common.{◌≡◌, ℕ, ◌≤◌, true, false, List, [], length, take, Ok, Err, Result, sym, refl, ap, ◌∙◌}
+use Rattle.std.specs.Result.{is_err}
 use Rattle.std.proofs.lemmas.List.{take_all}
-use Rattle.std.proofs.lemmas.Bool.{le-ltb}
+use Rattle.std.proofs.lemmas.Bool.{le-ltb, false≢true}
 use Rattle.words.specs.declared.fault.Fault.{Fault}
-use Rattle.words.specs.Words.{Reading, start, text_limit}
+use Rattle.words.specs.Words.{text_limit}
 use Rattle.logic.specs.declared.row.Claim.{Claim}
 use Rattle.logic.specs.declared.row.Row.{Row}
 use Rattle.logic.specs.declared.sheet.Sheet.{Sheet}
-use Rattle.logic.specs.Sheets.{sheet_claims, sheet_rows}
-use Rattle.sheet.specs.Reading.{Step, begun, claims_from, claims_read, lines_read, sheet_answer, sheet_over}
+use Rattle.logic.specs.Sheets.{Empty}
+use Rattle.sheet.specs.Reading.{answered, begun, claims_from, lines_read, sheet_answer, sheet_over}
 
--- an empty sheet and a text before its first byte
-pub begun_from : (claims : List Claim) (rows : List Row) (p : Reading) (text : List ℕ) → claims ≡ [] → rows ≡ [] → p ≡ start text 2 → claims_from claims (record { at = p; rows = rows }) ≡ claims_from [] (begun text)
-begun_from claims rows p text c r e =
-    ap (λ (x : List Claim). claims_from x (record { at = p; rows = rows })) c
-    ∙ ap (λ (x : List Row). claims_from [] (record { at = p; rows = x })) r
-    ∙ ap (λ (x : Reading). claims_from [] (record { at = x; rows = [] })) e
+module _ (text : List ℕ) (short : length text ≤ text_limit) where
+  whole_text : sheet_over (claims_from [] (begun (take text_limit text))) ≡ sheet_over (claims_from [] (begun text))
+  whole_text = ap (λ (t : List ℕ). sheet_over (claims_from [] (begun t))) (take_all text_limit text short)
 
--- what the loop over claims answers is what the lines answer
-pub lines_from : (r : Result (Unit {0}) Fault) (s : Sheet) (p : Reading) (o : Step (List Claim)) → claims_read r (record { at = p; rows = sheet_rows s }) (sheet_claims s) ≡ o → lines_read r s ≡ sheet_over o
-lines_from (Ok x) s p o e = ap sheet_over e
-lines_from (Err f) s p o e = ap sheet_over e
+  -- what was read stays, and the sheet is empty again after a fault
+  pub sheet_kept : (r : Result (Unit {0}) Fault) (s : Sheet) → is_err r ≡ false → lines_read r s ≡ sheet_over (claims_from [] (begun (take text_limit text))) → answered r s ≡ sheet_over (claims_from [] (begun text))
+  sheet_kept (Ok x) s ok e = e ∙ whole_text
+  sheet_kept (Err f) s ok e = absurd (false≢true (sym ok))
 
-pub whole_text : (text : List ℕ) → length text ≤ text_limit → sheet_over (claims_from [] (begun (take text_limit text))) ≡ sheet_over (claims_from [] (begun text))
-whole_text text short = ap (λ (t : List ℕ). sheet_over (claims_from [] (begun t))) (take_all text_limit text short)
+  pub sheet_cleared : (r : Result (Unit {0}) Fault) (s clean : Sheet) → is_err r ≡ true → Empty clean → lines_read r s ≡ sheet_over (claims_from [] (begun (take text_limit text))) → answered r clean ≡ sheet_over (claims_from [] (begun text))
+  sheet_cleared (Ok x) s clean err none e = absurd (false≢true err)
+  sheet_cleared (Err f) s clean err (rows, claims) e = rw (rows, claims) (e ∙ whole_text)
 
 pub answer_over : (text : List ℕ) (rows : List Row) (claims : List Claim) → length text ≤ text_limit → sheet_answer text rows claims ≡ sheet_over (claims_from [] (begun text))
 answer_over text rows claims short = let h = le-ltb text_limit (length text) short in rw h refl

@@ -1,14 +1,15 @@
 -- A claim sheet, read step by step.
-use Rattle.std.specs.Prelude.{ℕ, zero, suc, ◌<◌, ◌≤◌, cond, List, [], ◌∷◌, ◌++◌, length, Some, None, Ok, Err, codes, Option, Result, ◌==◌, nat_lt}
+use Rattle.std.specs.Prelude.{◌≡◌, ℕ, zero, suc, ◌-◌, ◌<◌, ◌≤◌, cond, List, [], ◌∷◌, ◌++◌, length, Some, None, Ok, Err, codes, Option, Result, ◌==◌, nat_lt}
 use Rattle.std.specs.Str.{bytes_eq}
 use Rattle.graph.specs.Meaning.{mode_limit, command_limit, flag_limit}
 use Rattle.words.specs.declared.fault.Fault.{Fault}
 use Rattle.words.specs.declared.fault.Place.{Place}
-use Rattle.words.specs.Numbers.{Refused, refused}
-use Rattle.words.specs.Words.{Reading, Out, good, bad, here, start, text_limit}
+use Rattle.words.specs.declared.token.Placed.{Placed}
+use Rattle.words.specs.Numbers.{Refused, refused, before_text}
+use Rattle.words.specs.Words.{Reading, Out, good, bad, here, left, start, text_limit}
 use Rattle.forms.specs.declared.form.Next.{Next}
 use Rattle.forms.specs.declared.form.Next.TheVariants.{Form, End}
-use Rattle.forms.specs.Forms.{ItemAt, item_name, item_number, closed, ended, form_reading, itemized, named, next_form, numbered, opened, taken}
+use Rattle.forms.specs.Forms.{ItemAt, item_name, item_number, closed, form_end, form_reading, itemized, named, next_form, number_in, opened, taken}
 use Rattle.logic.specs.declared.row.Claim.{Claim}
 use Rattle.logic.specs.declared.row.Row.{Row}
 use Rattle.logic.specs.declared.row.Row.TheVariants.{Never, Flag, Not, Both, Either, Implies, Box, Diamond, Command, Sequence, Choice, Repetition, Converse, Test}
@@ -16,7 +17,6 @@ use Rattle.logic.specs.declared.row.Scope.{Scope}
 use Rattle.logic.specs.declared.row.Scope.TheVariants.{All, Mode}
 use Rattle.logic.specs.declared.sheet.Sheet.{Sheet}
 use Rattle.logic.specs.Sheets.{row_limit, claim_fits, claims_with, sheet_rows, sheet_claims}
-use Rattle.sheet.specs.declared.reader.Letter.{Letter}
 use Rattle.sheet.specs.declared.reader.Reader.{Reader}
 
 -- how far the text has been read, and the rows that were made so far
@@ -24,8 +24,17 @@ pub record State : Type 0 where
   pub at : Reading
   pub rows : List Row
 
-abbrev pub state : Reader → Sheet → State
-state r s = record { at = form_reading r.forms; rows = sheet_rows s }
+abbrev pub state : Reader → State
+state r = record { at = form_reading r.forms; rows = sheet_rows r.sheet.now }
+
+abbrev pub reader_claims : Reader → List Claim
+reader_claims r = sheet_claims r.sheet.now
+
+-- a step inside a claim: the sheet is the same and has the same claims, and no byte comes back
+pub record Moves (before after : Reader) : Type 0 where
+  pub same_sheet : after.sheet.ghost_name ≡ before.sheet.ghost_name
+  pub claims : reader_claims after ≡ reader_claims before
+  pub shorter : left after.forms.words ≤ left before.forms.words
 
 -- what a step gives: a value and the state after it, or a refusal
 pub data Step (A : Type 0) : Type 0 where
@@ -54,21 +63,25 @@ abbrev pub refused_limit : {A : Type 0} → ℕ → Place → State → Step A
 refused_limit number at s = failed (record { number = number; text = s.at.text; layer = 3; place = at })
 
 -- a word of one letter
-abbrev pub letter_of : List ℕ → Place → State → Step Letter
+abbrev pub letter_of : List ℕ → Place → State → Step (Placed ℕ)
 letter_of [] at s = refused_form 4 at s
-letter_of (b ∷ []) at s = done (record { letter = b; place = at }) s
+letter_of (b ∷ []) at s = done (record { value = b; place = at }) s
 letter_of (b ∷ c ∷ bs) at s = refused_form 4 at s
 
-abbrev pub letter_at : State → Step Letter
+abbrev pub letter_at : State → Step (Placed ℕ)
 letter_at s = then (lifted (taken named s.at) s) (λ w s. letter_of w.bytes w.place s)
 
 -- a number below a limit
 abbrev pub number_below : ℕ → State → Step ℕ
-number_below limit s = then (lifted (taken numbered s.at) s) (λ n s. cond (nat_lt n.value limit) (done n.value s) (refused_limit 7 n.place s))
+number_below limit s = lifted (number_in 0 limit s.at) s
 
 -- an opening bracket of a row
 abbrev pub bracket_at : State → Step Place
 bracket_at s = lifted (taken opened s.at) s
+
+-- an opening bracket of a row, and how many may be opened inside it
+abbrev pub open_at : ℕ → State → Step ℕ
+open_at d s = then (bracket_at s) (λ at s. cond (d == 0) (refused_form 5 at s) (done (d - 1) s))
 
 -- the closing bracket of a row, which is then numbered
 abbrev pub placed : Row → Place → State → Step ℕ
@@ -85,26 +98,26 @@ abbrev pub two : (State → Step ℕ) → (State → Step ℕ) → (ℕ → ℕ 
 two f g row s = then (f s) (λ x s. then (g s) (λ y s. done (row x y) s))
 
 -- a formula's row by its letter, with the readers of its parts: f reads formulas, g programs
-abbrev pub formula_row : (State → Step ℕ) → (State → Step ℕ) → Letter → State → Step Row
+abbrev pub formula_row : (State → Step ℕ) → (State → Step ℕ) → Placed ℕ → State → Step Row
 formula_row f g h s =
-    cond (h.letter == 79) (done Never s)
-    (cond (h.letter == 80) (one (number_below flag_limit) Flag s)
-    (cond (h.letter == 78) (one f Not s)
-    (cond (h.letter == 75) (two f f Both s)
-    (cond (h.letter == 65) (two f f Either s)
-    (cond (h.letter == 67) (two f f Implies s)
-    (cond (h.letter == 76) (two g f Box s)
-    (cond (h.letter == 77) (two g f Diamond s)
+    cond (h.value == 79) (done Never s)
+    (cond (h.value == 80) (one (number_below flag_limit) Flag s)
+    (cond (h.value == 78) (one f Not s)
+    (cond (h.value == 75) (two f f Both s)
+    (cond (h.value == 65) (two f f Either s)
+    (cond (h.value == 67) (two f f Implies s)
+    (cond (h.value == 76) (two g f Box s)
+    (cond (h.value == 77) (two g f Diamond s)
     (refused_form 4 h.place s))))))))
 
-abbrev pub program_row : (State → Step ℕ) → (State → Step ℕ) → Letter → State → Step Row
+abbrev pub program_row : (State → Step ℕ) → (State → Step ℕ) → Placed ℕ → State → Step Row
 program_row f g h s =
-    cond (h.letter == 100) (one (number_below command_limit) Command s)
-    (cond (h.letter == 115) (two g g Sequence s)
-    (cond (h.letter == 117) (two g g Choice s)
-    (cond (h.letter == 114) (one g Repetition s)
-    (cond (h.letter == 98) (one g Converse s)
-    (cond (h.letter == 116) (one f Test s)
+    cond (h.value == 100) (one (number_below command_limit) Command s)
+    (cond (h.value == 115) (two g g Sequence s)
+    (cond (h.value == 117) (two g g Choice s)
+    (cond (h.value == 114) (one g Repetition s)
+    (cond (h.value == 98) (one g Converse s)
+    (cond (h.value == 116) (one f Test s)
     (refused_form 4 h.place s))))))
 
 -- what follows a bracket, where so many brackets may still be opened, that one included
@@ -149,14 +162,10 @@ scope_of (item_number n) s = cond (nat_lt n.value mode_limit) (done (Mode n.valu
 abbrev pub scope_at : State → Step Scope
 scope_at s = then (lifted (taken itemized s.at) s) scope_of
 
--- the end of a form, and of its line
-abbrev pub form_end : State → Step (Unit {0})
-form_end s = then (lifted (taken closed s.at) s) (λ _ s. lifted (taken ended s.at) s)
-
 -- a claim, after its bracket
 abbrev pub claim_form : List Claim → State → Step Claim
 claim_form claims s =
-    then (claim_word claims s) (λ _ s. then (scope_at s) (λ scope s. then (formula_at depth_limit s) (λ row s. then (form_end s) (λ _ s. done (record { scope = scope; row = row }) s))))
+    then (claim_word claims s) (λ _ s. then (scope_at s) (λ scope s. then (formula_at depth_limit s) (λ row s. then (lifted (form_end s.at) s) (λ _ s. done (record { scope = scope; row = row }) s))))
 
 abbrev pub claim_line : List Claim → Next → State → Step (Option Claim)
 claim_line claims Form s = then (claim_form claims s) (λ c s. done (Some c) s)
@@ -206,17 +215,9 @@ sheet_over (failed e) = refuses e [] []
 abbrev pub begun : List ℕ → State
 begun text = record { at = start text 2; rows = [] }
 
--- a refusal before the text is looked at
-abbrev pub before_text : ℕ → Refused
-before_text n = record { number = n; text = 2; layer = 0; place = record { line = 0; column = 0 } }
-
 -- the ground on which nothing is read: 10 where the text is too long
 abbrev pub before_refusal : List ℕ → Option Refused
-before_refusal text = cond (nat_lt text_limit (length text)) (Some (before_text 10)) None
-
-abbrev pub refusal_in : Result (Unit {0}) Fault → Option Refused
-refusal_in (Ok _) = None
-refusal_in (Err e) = Some (refused e)
+before_refusal text = cond (nat_lt text_limit (length text)) (Some (before_text 2 10)) None
 
 -- a refusal inside the text says nothing of the rows and claims until the sheet is cleared
 abbrev pub lines_read : Result (Unit {0}) Fault → Sheet → Answer

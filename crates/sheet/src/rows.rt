@@ -1,180 +1,114 @@
 //! Formulas and programs, by readers that call each other.
 
-ghost use Rattle.std.specs.Prelude.{◌≡◌, ◌≤◌};
-ghost use Rattle.logic.specs.Sheets.{sheet_claims};
-ghost use Rattle.sheet.specs.Reading.{bracket_at, close_at, formula_at, formula_row_at, letter_at, number_below, placed, program_at, program_row_at, state, stepped};
-ghost use Rattle.words.specs.Numbers.{layer_number, reason_number, refused};
-ghost use Rattle.words.specs.Words.{left};
+ghost use Rattle.std.specs.Prelude.{◌≡◌, ◌<◌, IfOk};
+ghost use Rattle.sheet.specs.Reading.{Moves, close_at, formula_at, formula_row_at, letter_at, open_at, program_at, program_row_at, state, stepped};
 
-use crate::reader::{Letter, Reader};
+use crate::reader::Reader;
 use graph::{COMMAND_LIMIT, FLAG_LIMIT};
-use logic::{Row, RowNumber, Sheet};
-use words::{Fault, Layer, Place, Reason};
+use logic::{Row, RowNumber};
+use words::{Fault, Layer, Placed, Reason};
 
-impl<'a> Reader<'a> {
+impl<'a, 's> Reader<'a, 's> {
     // A word of one letter, with its place.
-    fn letter(&mut self, sheet: &Sheet) -> Result<Letter, Fault>
-        ensures reads { stepped result (state self.new sheet.now) ≡ letter_at (state self.old sheet.now) }
-        ensures shorter { left self.new.forms.words ≤ left self.old.forms.words }
+    fn letter(&mut self) -> Result<Placed<char>, Fault>
+        ensures reads { stepped result (state self.new) ≡ letter_at (state self.old) }
+        ensures moves { Moves self.old self.new }
     {
         let name = self.forms.name()?;
-        match name.bytes {
-            [letter] => Ok(Letter {
-                letter: char::from(*letter),
+        match name.value {
+            [letter] => Ok(Placed {
+                value: char::from(*letter),
                 place: name.place,
             }),
-            _ => Err(
-                self.forms
-                    .fault(Reason::Misplaced, Layer::Forms, name.place),
-            ),
+            _ => Err(self.misplaced(name.place)),
         }
     }
 
-    // A number below a limit.
-    fn number_below(&mut self, sheet: &Sheet, limit: u8) -> Result<u8, Fault>
-        ensures reads { stepped result (state self.new sheet.now) ≡ number_below limit (state self.old sheet.now) }
-        ensures shorter { left self.new.forms.words ≤ left self.old.forms.words }
+    // An opening bracket of a row, where one more may be opened: how many may then be opened inside it.
+    fn open(&mut self, depth: u8) -> Result<u8, Fault>
+        ensures reads { stepped result (state self.new) ≡ open_at depth (state self.old) }
+        ensures fewer { IfOk result (λ inside. inside < depth) }
+        ensures moves { Moves self.old self.new }
     {
-        let n = self.forms.number()?;
-        if n.value < u16::from(limit) {
-            Ok(n.value as u8)
-        } else {
-            Err(self.forms.fault(Reason::OutOfRange, Layer::Limits, n.place))
+        let place = self.forms.open()?;
+        match depth.checked_sub(1) {
+            Some(inside) => Ok(inside),
+            None => Err(self.fault(Reason::TooDeep, Layer::Forms, place)),
         }
     }
 
     // Numbers the row whose bracket closes here.
-    fn close(&mut self, sheet: &mut Sheet, row: Row) -> Result<RowNumber, Fault>
-        ensures reads { stepped result (state self.new sheet.new) ≡ close_at row (state self.old sheet.old) }
-        ensures claims { sheet_claims sheet.new ≡ sheet_claims sheet.old }
-        ensures shorter { left self.new.forms.words ≤ left self.old.forms.words }
+    fn close(&mut self, row: Row) -> Result<RowNumber, Fault>
+        ensures reads { stepped result (state self.new) ≡ close_at row (state self.old) }
+        ensures moves { Moves self.old self.new }
     {
         let place = self.forms.close()?;
-        match sheet.push_row(row) {
+        match self.sheet.push_row(row) {
             Some(number) => Ok(number),
-            None => Err(self.forms.fault(Reason::TooMany, Layer::Limits, place)),
+            None => Err(self.beyond(Reason::TooMany, place)),
         }
     }
 
     // A formula, with the rows of its parts before its own; so many brackets may still be opened.
     #[cycle(trees)]
-    pub(crate) fn formula(&mut self, sheet: &mut Sheet, depth: u8) -> Result<RowNumber, Fault>
-        ensures reads { stepped result (state self.new sheet.new) ≡ formula_at depth (state self.old sheet.old) }
-        ensures claims { sheet_claims sheet.new ≡ sheet_claims sheet.old }
-        ensures shorter { left self.new.forms.words ≤ left self.old.forms.words }
+    #[tactic(auto, using(crate::proofs::Opens::formula_opens))]
+    pub(crate) fn formula(&mut self, depth: u8) -> Result<RowNumber, Fault>
+        ensures reads { stepped result (state self.new) ≡ formula_at depth (state self.old) }
+        ensures moves { Moves self.old self.new }
     {
-        let place = self.forms.open()?;
-        if depth == 0 {
-            return Err(self.forms.fault(Reason::TooDeep, Layer::Forms, place));
-        }
-        let row = self.formula_row(sheet, depth - 1)?;
-        self.close(sheet, row)
+        let inside = self.open(depth)?;
+        let row = self.formula_row(inside)?;
+        self.close(row)
     }
 
     // The row of a formula by its letter, after its bracket.
     #[cycle(trees)]
-    fn formula_row(&mut self, sheet: &mut Sheet, depth: u8) -> Result<Row, Fault>
-        ensures reads { stepped result (state self.new sheet.new) ≡ formula_row_at depth (state self.old sheet.old) }
-        ensures claims { sheet_claims sheet.new ≡ sheet_claims sheet.old }
-        ensures shorter { left self.new.forms.words ≤ left self.old.forms.words }
+    fn formula_row(&mut self, depth: u8) -> Result<Row, Fault>
+        ensures reads { stepped result (state self.new) ≡ formula_row_at depth (state self.old) }
+        ensures moves { Moves self.old self.new }
     {
-        let head = self.letter(sheet)?;
-        match head.letter {
+        let head = self.letter()?;
+        match head.value {
             'O' => Ok(Row::Never),
-            'P' => {
-                let p = self.number_below(sheet, FLAG_LIMIT)?;
-                Ok(Row::Flag(p))
-            }
-            'N' => {
-                let x = self.formula(sheet, depth)?;
-                Ok(Row::Not(x))
-            }
-            'K' => {
-                let x = self.formula(sheet, depth)?;
-                let y = self.formula(sheet, depth)?;
-                Ok(Row::Both(x, y))
-            }
-            'A' => {
-                let x = self.formula(sheet, depth)?;
-                let y = self.formula(sheet, depth)?;
-                Ok(Row::Either(x, y))
-            }
-            'C' => {
-                let x = self.formula(sheet, depth)?;
-                let y = self.formula(sheet, depth)?;
-                Ok(Row::Implies(x, y))
-            }
-            'L' => {
-                let r = self.program(sheet, depth)?;
-                let x = self.formula(sheet, depth)?;
-                Ok(Row::Box(r, x))
-            }
-            'M' => {
-                let r = self.program(sheet, depth)?;
-                let x = self.formula(sheet, depth)?;
-                Ok(Row::Diamond(r, x))
-            }
-            _ => Err(
-                self.forms
-                    .fault(Reason::Misplaced, Layer::Forms, head.place),
-            ),
+            'P' => Ok(Row::Flag(self.forms.number_in(0..FLAG_LIMIT)?)),
+            'N' => Ok(Row::Not(self.formula(depth)?)),
+            'K' => Ok(Row::Both(self.formula(depth)?, self.formula(depth)?)),
+            'A' => Ok(Row::Either(self.formula(depth)?, self.formula(depth)?)),
+            'C' => Ok(Row::Implies(self.formula(depth)?, self.formula(depth)?)),
+            'L' => Ok(Row::Box(self.program(depth)?, self.formula(depth)?)),
+            'M' => Ok(Row::Diamond(self.program(depth)?, self.formula(depth)?)),
+            _ => Err(self.misplaced(head.place)),
         }
     }
 
     // A program, with the rows of its parts before its own; so many brackets may still be opened.
+    // A function beside `formula`, by a rule of the project: readers of formulas and of programs call each other.
     #[cycle(trees)]
-    pub(crate) fn program(&mut self, sheet: &mut Sheet, depth: u8) -> Result<RowNumber, Fault>
-        ensures reads { stepped result (state self.new sheet.new) ≡ program_at depth (state self.old sheet.old) }
-        ensures claims { sheet_claims sheet.new ≡ sheet_claims sheet.old }
-        ensures shorter { left self.new.forms.words ≤ left self.old.forms.words }
+    #[tactic(auto, using(crate::proofs::Opens::program_opens))]
+    fn program(&mut self, depth: u8) -> Result<RowNumber, Fault>
+        ensures reads { stepped result (state self.new) ≡ program_at depth (state self.old) }
+        ensures moves { Moves self.old self.new }
     {
-        let place = self.forms.open()?;
-        if depth == 0 {
-            return Err(self.forms.fault(Reason::TooDeep, Layer::Forms, place));
-        }
-        let row = self.program_row(sheet, depth - 1)?;
-        self.close(sheet, row)
+        let inside = self.open(depth)?;
+        let row = self.program_row(inside)?;
+        self.close(row)
     }
 
     // The row of a program by its letter, after its bracket.
     #[cycle(trees)]
-    fn program_row(&mut self, sheet: &mut Sheet, depth: u8) -> Result<Row, Fault>
-        ensures reads { stepped result (state self.new sheet.new) ≡ program_row_at depth (state self.old sheet.old) }
-        ensures claims { sheet_claims sheet.new ≡ sheet_claims sheet.old }
-        ensures shorter { left self.new.forms.words ≤ left self.old.forms.words }
+    fn program_row(&mut self, depth: u8) -> Result<Row, Fault>
+        ensures reads { stepped result (state self.new) ≡ program_row_at depth (state self.old) }
+        ensures moves { Moves self.old self.new }
     {
-        let head = self.letter(sheet)?;
-        match head.letter {
-            'd' => {
-                let a = self.number_below(sheet, COMMAND_LIMIT)?;
-                Ok(Row::Command(a))
-            }
-            's' => {
-                let r = self.program(sheet, depth)?;
-                let s = self.program(sheet, depth)?;
-                Ok(Row::Sequence(r, s))
-            }
-            'u' => {
-                let r = self.program(sheet, depth)?;
-                let s = self.program(sheet, depth)?;
-                Ok(Row::Choice(r, s))
-            }
-            'r' => {
-                let r = self.program(sheet, depth)?;
-                Ok(Row::Repetition(r))
-            }
-            'b' => {
-                let r = self.program(sheet, depth)?;
-                Ok(Row::Converse(r))
-            }
-            't' => {
-                let x = self.formula(sheet, depth)?;
-                Ok(Row::Test(x))
-            }
-            _ => Err(
-                self.forms
-                    .fault(Reason::Misplaced, Layer::Forms, head.place),
-            ),
+        let head = self.letter()?;
+        match head.value {
+            'd' => Ok(Row::Command(self.forms.number_in(0..COMMAND_LIMIT)?)),
+            's' => Ok(Row::Sequence(self.program(depth)?, self.program(depth)?)),
+            'u' => Ok(Row::Choice(self.program(depth)?, self.program(depth)?)),
+            'r' => Ok(Row::Repetition(self.program(depth)?)),
+            'b' => Ok(Row::Converse(self.program(depth)?)),
+            't' => Ok(Row::Test(self.formula(depth)?)),
+            _ => Err(self.misplaced(head.place)),
         }
     }
 }

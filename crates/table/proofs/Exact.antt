@@ -3,6 +3,7 @@ use Rattle.std.proofs.Common.{◌≡◌, ℕ, suc, ◌<◌, ◌≤◌, Bool, tru
 use Rattle.std.proofs.lemmas.List.{length-map}
 use Rattle.std.proofs.lemmas.Bool.{ltb-false}
 use Rattle.words.specs.declared.fault.Fault.{Fault}
+use Rattle.words.specs.Numbers.{before_text}
 use Rattle.words.specs.Words.{Tok, Reading, Out, good, bad, start}
 use Rattle.words.proofs.Tokens.{Reads, reads_from_spells, spells_from_reads, length_reads}
 use Rattle.forms.specs.Lines.{Lines}
@@ -12,9 +13,10 @@ use Rattle.std.specs.List.{AllByRecursion}
 use Rattle.table.specs.declared.contents.Counts.{Counts}
 use Rattle.table.specs.declared.contents.Entry.{Entry}
 use Rattle.table.specs.declared.contents.Keyword.TheVariants as key
-use Rattle.table.specs.Table.{Contents, accepts, answered, answer_by, blank, contents_at, counts_of, entries_from, head_at, heads_at, over, table_answer, table_over, before_text, with_entries}
+use Rattle.table.specs.Table.{Contents, accepts, answered, answer_by, blank, contents_at, counts_of, entries_from, head_at, heads_at, over, table_answer, table_over, with_entries}
 use Rattle.table.specs.Grammar.{EntryFits, IsTable, ReadsExactly, TableRead, entry_tokens, table_forms}
-use Rattle.table.proofs.LinesRead.{bind_parts, good_value, good_reading, head_from_reads, reads_from_head, entries_from_reads, entries_read}
+use Rattle.forms.proofs.Steps.{bind_parts, good_value, good_reading}
+use Rattle.table.proofs.LinesRead.{head_from_reads, reads_from_head, entries_from_reads, entries_read}
 use Rattle.table.proofs.Says.{entries_say}
 use Rattle.table.proofs.Whole.{accepts_not_refuses, answer_over}
 
@@ -91,12 +93,12 @@ table_read text before after c (good t q) short e h =
           (ap (λ (x : Contents). x.counts) (sym same), ap (λ (x : Contents). x.entries) (sym same));
       says = entries_say t.counts is.counts t.entries is.fits (drop 8320 before);
     }))
-table_read text before after c (bad r) short e h = absurd (accepts_not_refuses h)
+table_read text before after c (bad r) short e h = cc
 
 -- an answer that is no refusal came from the text
-accepted : (text before after : List ℕ) (c : Counts) (short_memory long_text : Bool) → ltb (length before) 8320 ≡ short_memory → ltb 32768 (length text) ≡ long_text → accepts c after ≡ answer_by text before (cond short_memory (Some (before_text 9)) (cond long_text (Some (before_text 10)) None)) → (8320 ≤ length before) × TableRead text c after
-accepted text before after c true l e f h = absurd (accepts_not_refuses h)
-accepted text before after c false true e f h = absurd (accepts_not_refuses h)
+accepted : (text before after : List ℕ) (c : Counts) (short_memory long_text : Bool) → ltb (length before) 8320 ≡ short_memory → ltb 32768 (length text) ≡ long_text → accepts c after ≡ answer_by text before (cond short_memory (Some (before_text 1 9)) (cond long_text (Some (before_text 1 10)) None)) → (8320 ≤ length before) × TableRead text c after
+accepted text before after c true l e f h = cc
+accepted text before after c false true e f h = cc
 accepted text before after c false false e f h = (ltb-false (length before) 8320 e, table_read text before after c (contents_at (start text 1)) (ltb-false 32768 (length text) f) refl h)
 
 pub reads_exactly : (text before : List ℕ) (r : Result Counts Fault) (after : List ℕ) → answered r after ≡ table_answer text before → ReadsExactly text before r after

@@ -1,4 +1,3 @@
-pub mod Turns
 pub mod Whole
 pub mod Says
 pub mod LinesRead

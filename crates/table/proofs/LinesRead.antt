@@ -1,46 +1,26 @@
 -- Lines of a table: what is read is what is spelled, and what is spelled is read.
-use Rattle.std.proofs.Common.{◌≡◌, ℕ, zero, suc, ◌<◌, ◌≤◌, Bool, true, false, cond, ◌&&◌, eqb, ltb, leb, List, [], ◌∷◌, ◌++◌, map, length, Some, None, codes, Option, sym, refl, ap, ◌∙◌, subst, arith}
+use Rattle.std.proofs.Common.{◌≡◌, ℕ, zero, suc, ◌<◌, ◌≤◌, Bool, true, false, cond, eqb, List, [], ◌∷◌, ◌++◌, map, length, Some, None, codes, Option, sym, refl, ap, ◌∙◌, subst, arith}
 use Rattle.std.proofs.lemmas.Slice.Eq.{bytes_eq-Decides}
-use Rattle.std.proofs.lemmas.Bool.{and_parts, and_from, leb-true, le-leb, ltb-true, lt-ltb, eqb-true, eq-eqb}
+use Rattle.std.proofs.lemmas.Bool.{eqb-true, eq-eqb}
 use Rattle.std.specs.Str.{bytes_eq}
 use Rattle.words.specs.declared.fault.Place.{Place}
-use Rattle.words.specs.Numbers.{Refused}
-use Rattle.words.specs.Words.{Tok, word, number, opens, closes, Reading, Out, good, bad, bind}
+use Rattle.words.specs.declared.token.Placed.{Placed}
+use Rattle.words.specs.Words.{Tok, word, number, opens, closes, Reading, good}
 use Rattle.words.proofs.Tokens.{Reads}
 use Rattle.forms.specs.declared.form.Next.{Next}
 use Rattle.forms.specs.declared.form.Next.TheVariants.{Form, End}
-use Rattle.forms.specs.Forms.{closed, ended, named, numbered, next_form, taken}
+use Rattle.forms.specs.Forms.{beyond, form_end, named, number_in, next_form, taken}
 use Rattle.forms.specs.Lines.{Lines}
-use Rattle.forms.proofs.Spelled.{After, closed_from_reads, reads_from_closed, numbered_from_reads, reads_from_numbered, named_from_reads, reads_from_named, ended_from_reads, reads_from_ended, form_from_reads, reads_from_form, end_from_reads, reads_from_end}
+use Rattle.forms.proofs.Steps.{good_value, good_reading, bind_parts, cond_good, number_from_reads, reads_from_number, form_end_from_reads, reads_from_form_end}
+use Rattle.forms.proofs.Spelled.{After, named_from_reads, reads_from_named, form_from_reads, reads_from_form, end_from_reads, reads_from_end}
 use Rattle.std.specs.List.{AllByRecursion}
 use Rattle.table.specs.declared.contents.Counts.{Counts}
 use Rattle.table.specs.declared.contents.Entry.{Entry}
 use Rattle.table.specs.declared.contents.Entry.TheVariants.{Mark, Arc}
 use Rattle.table.specs.declared.contents.Keyword.{Keyword}
 use Rattle.table.specs.declared.contents.Keyword.TheVariants as key
-use Rattle.table.specs.declared.table.Head.{Head}
-use Rattle.table.specs.Table.{beyond, key_of, keyed, key_at, number_in, form_end, key_number, in_order, head_form, head_line, head_at, entry_by, entry_form, entry_line, entry_at, and_more, within_entries}
+use Rattle.table.specs.Table.{key_of, keyed, key_at, key_number, in_order, head_form, head_line, head_at, entry_by, entry_form, entry_line, entry_at, and_more, within_entries}
 use Rattle.table.specs.Grammar.{head_tokens, entry_tokens, EntryFits}
-
--- a refusal is no value
-pub bad_not_good : {A : Type 0} {e : Refused} {a : A} {q : Reading} → bad e ≡ good a q → ⊥
-bad_not_good h = let z : ◌≡◌ {A = ℕ} 0 1 = cc in omega arith
-
-pub good_value : {A : Type 0} {a b : A} {p q : Reading} → good a p ≡ good b q → a ≡ b
-good_value h = cc
-
-pub good_reading : {A : Type 0} {a b : A} {p q : Reading} → good a p ≡ good b q → p ≡ q
-good_reading h = cc
-
--- the steps of two in a row
-pub bind_parts : {A B : Type 0} (o : Out A) (f : A → Reading → Out B) (b : B) (q : Reading) → bind o f ≡ good b q → (a : A) × (p : Reading) × (o ≡ good a p) × (f a p ≡ good b q)
-bind_parts (good a p) f b q e = (a, p, refl, e)
-bind_parts (bad r) f b q e = absurd (bad_not_good e)
-
--- a test that chose a value
-cond_good : {A : Type 0} (t : Bool) (a b : A) (p q : Reading) (r : Refused) → cond t (good a p) (bad r) ≡ good b q → (t ≡ true) × (a ≡ b) × (p ≡ q)
-cond_good true a b p q r e = (refl, good_value e, good_reading e)
-cond_good false a b p q r e = absurd (bad_not_good e)
 
 -- the table's words
 abbrev pub name_of : Keyword → List ℕ
@@ -70,58 +50,30 @@ name_of_key w k e =
     (some_name w (codes "commands") k key.Commands _
     (some_name w (codes "flags") k key.Flags _
     (some_name w (codes "mark") k key.Mark _
-    (some_name w (codes "arc") k key.Arc _ (λ n. absurd (let z : ◌≡◌ {A = ℕ} 0 1 = cc in omega arith)) refl)
+    (some_name w (codes "arc") k key.Arc _ (λ n. cc) refl)
     refl)
     refl)
     refl)
     refl e
 
 -- one of the table's words
-key_from_reads : {p : Reading} {ts : List Tok} (k : Keyword) → Reads p (word (name_of k) ∷ ts) → (q : Reading) × (at : Place) × (key_at p ≡ good (record { key = k; place = at }) q) × Reads q ts
+key_from_reads : {p : Reading} {ts : List Tok} (k : Keyword) → Reads p (word (name_of k) ∷ ts) → (q : Reading) × (at : Place) × (key_at p ≡ good (record { value = k; place = at }) q) × Reads q ts
 key_from_reads k r =
     let (q, at, e, s) = named_from_reads r in
     (q, at, rw (e, key_of_name k) refl, s)
 
-keyed_good : (o : Option Keyword) (at : Place) (p q : Reading) (h : Head) → keyed o at p ≡ good h q → (o ≡ Some h.key) × (p ≡ q)
-keyed_good (Some k) at p q h e = (ap (λ (x : Head). Some x.key) (good_value e), good_reading e)
-keyed_good None at p q h e = absurd (bad_not_good e)
+keyed_good : (o : Option Keyword) (at : Place) (p q : Reading) (h : Placed Keyword) → keyed o at p ≡ good h q → (o ≡ Some h.value) × (p ≡ q)
+keyed_good (Some k) at p q h e = (ap (λ (x : Placed Keyword). Some x.value) (good_value e), good_reading e)
+keyed_good None at p q h e = cc
 
-reads_from_key : {p q : Reading} {h : Head} {ts : List Tok} → key_at p ≡ good h q → Reads q ts → Reads p (word (name_of h.key) ∷ ts)
+reads_from_key : {p q : Reading} {h : Placed Keyword} {ts : List Tok} → key_at p ≡ good h q → Reads q ts → Reads p (word (name_of h.value) ∷ ts)
 reads_from_key {p} {q} {h} {ts} e r =
     let (w, s, n, k) = bind_parts (taken named p) (λ w q. keyed (key_of w.bytes) w.place q) h q e in
     let g = keyed_good (key_of w.bytes) w.place s q h k in
-    subst (λ (x : List ℕ). Reads p (word x ∷ ts)) (name_of_key w.bytes h.key g.0) (reads_from_named n (subst (λ (x : Reading). Reads x ts) (sym g.1) r))
-
--- a number in its range
-number_from_reads : {p : Reading} {n : ℕ} {ts : List Tok} (low end : ℕ) → low ≤ n → n < end → Reads p (number n ∷ ts) → (q : Reading) × (number_in low end p ≡ good n q) × Reads q ts
-number_from_reads {n = n} low end l h r =
-    let (q, at, e, s) = numbered_from_reads r in
-    let t = and_from (leb low n) (ltb n end) (le-leb low n l) (lt-ltb n end h) in
-    (q, rw (e, t) refl, s)
-
-reads_from_number : {p q : Reading} {n : ℕ} {ts : List Tok} (low end : ℕ) → number_in low end p ≡ good n q → Reads q ts → (low ≤ n) × (n < end) × Reads p (number n ∷ ts)
-reads_from_number {p} {q} {n} {ts} low end e r =
-    let (m, s, t, k) = bind_parts (taken numbered p) (λ n q. cond (leb low n.value && ltb n.value end) (good n.value q) (beyond 7 n.place q)) n q e in
-    let g = cond_good (leb low m.value && ltb m.value end) m.value n s q _ k in
-    let b = and_parts (leb low m.value) (ltb m.value end) g.0 in
-    let read = reads_from_numbered t (subst (λ (x : Reading). Reads x ts) (sym g.2) r) in
-    (omega (arith, leb-true low m.value b.0, g.1), omega (arith, ltb-true m.value end b.1, g.1), subst (λ (x : ℕ). Reads p (number x ∷ ts)) g.1 read)
-
--- the end of a form and of its line
-form_end_from_reads : {p : Reading} {ts : List Tok} {forms : List (List Tok)} → Reads p (closes ∷ ts) → After ts forms → (q : Reading) × (us : List Tok) × (form_end p ≡ good tt q) × Reads q us × Lines us forms
-form_end_from_reads r a =
-    let (q, at, e, s) = closed_from_reads r in
-    let (x, us, f, t, l) = ended_from_reads s a in
-    (x, us, rw (e, f) refl, t, l)
-
-reads_from_form_end : {p q : Reading} {us : List Tok} {forms : List (List Tok)} {x : Unit {0}} → form_end p ≡ good x q → Reads q us → Lines us forms → (ts : List Tok) × Reads p (closes ∷ ts) × After ts forms
-reads_from_form_end {p} {q} {us} {forms} {x} e r l =
-    let (at, s, c, k) = bind_parts (taken closed p) (λ _ q. taken ended q) x q e in
-    let (ts, t, a) = reads_from_ended k r l in
-    (ts, reads_from_closed c t, a)
+    subst (λ (x : List ℕ). Reads p (word x ∷ ts)) (name_of_key w.bytes h.value g.0) (reads_from_named n (subst (λ (x : Reading). Reads x ts) (sym g.1) r))
 
 -- the right head
-in_order_from : (k : Keyword) (at : Place) (p : Reading) → in_order k (record { key = k; place = at }) p ≡ good tt p
+in_order_from : (k : Keyword) (at : Place) (p : Reading) → in_order k (record { value = k; place = at }) p ≡ good tt p
 in_order_from k at p = ap (λ b. cond b (good tt p) (beyond 6 at p)) (eq-eqb (key_number k) (key_number k) refl)
 
 -- the word of a number, so that a number is of one word
@@ -140,11 +92,11 @@ key_by_number key.Flags = refl
 key_by_number key.Mark = refl
 key_by_number key.Arc = refl
 
-in_order_key : (k : Keyword) (h : Head) (p q : Reading) (x : Unit {0}) → in_order k h p ≡ good x q → (h.key ≡ k) × (p ≡ q)
+in_order_key : (k : Keyword) (h : Placed Keyword) (p q : Reading) (x : Unit {0}) → in_order k h p ≡ good x q → (h.value ≡ k) × (p ≡ q)
 in_order_key k h p q x e =
-    let g = cond_good (eqb (key_number k) (key_number h.key)) tt x p q _ e in
-    let n = eqb-true (key_number k) (key_number h.key) g.0 in
-    (sym (key_by_number h.key) ∙ ap key_by (sym n) ∙ key_by_number k, g.2)
+    let g = cond_good (eqb (key_number k) (key_number h.value)) tt x p q _ e in
+    let n = eqb-true (key_number k) (key_number h.value) g.0 in
+    (sym (key_by_number h.value) ∙ ap key_by (sym n) ∙ key_by_number k, g.2)
 
 -- a head, as a line
 pub head_from_reads : {p : Reading} {ts : List Tok} {forms : List (List Tok)} (k : Keyword) (low end n : ℕ) → low ≤ n → n < end → Reads p ts → Lines ts (head_tokens (name_of k) n ∷ forms) → (q : Reading) × (us : List Tok) × (head_at k low end p ≡ good n q) × Reads q us × Lines us forms
@@ -174,7 +126,7 @@ reads_from_head_line k low end n Form s f e r lines =
     let (tail, l, h, t, a) = reads_from_head_form k low end n e r lines in
     let (ts, read, all) = reads_from_form (word (name_of k) ∷ (number n ∷ (closes ∷ []))) f t a in
     (ts, l, h, read, all)
-reads_from_head_line k low end n (End at) s f e r lines = absurd (bad_not_good e)
+reads_from_head_line k low end n (End at) s f e r lines = cc
 
 pub reads_from_head : {p q : Reading} {us : List Tok} {forms : List (List Tok)} (k : Keyword) (low end n : ℕ) → head_at k low end p ≡ good n q → Reads q us → Lines us forms → (ts : List Tok) × (low ≤ n) × (n < end) × Reads p ts × Lines ts (head_tokens (name_of k) n ∷ forms)
 reads_from_head {p} {q} k low end n e r lines =
@@ -209,10 +161,10 @@ record EntryRead (c : Counts) (k : Keyword) (e : Entry) (p : Reading) (ts : List
   spelled : inner e ts ≡ word (name_of k) ∷ tokens
   reads : Reads p tokens
 
-entry_by_read : {p q : Reading} {ts : List Tok} (c : Counts) (h : Head) (k : Keyword) (e : Entry) → entry_by c h k p ≡ good e q → Reads q (closes ∷ ts) → EntryRead c k e p ts
-entry_by_read c h key.Modes e f r = absurd (bad_not_good f)
-entry_by_read c h key.Commands e f r = absurd (bad_not_good f)
-entry_by_read c h key.Flags e f r = absurd (bad_not_good f)
+entry_by_read : {p q : Reading} {ts : List Tok} (c : Counts) (h : Placed Keyword) (k : Keyword) (e : Entry) → entry_by c h k p ≡ good e q → Reads q (closes ∷ ts) → EntryRead c k e p ts
+entry_by_read c h key.Modes e f r = cc
+entry_by_read c h key.Commands e f r = cc
+entry_by_read c h key.Flags e f r = cc
 entry_by_read {p} {q} {ts} c h key.Mark e f r =
     let (a, p1, e1, f1) = bind_parts (number_in 0 c.flags p) _ e q f in
     let (u, p2, e2, f2) = bind_parts (number_in 0 c.modes p1) _ e q f1 in
@@ -243,7 +195,7 @@ entry_by_read {p} {q} {ts} c h key.Arc e f r =
 reads_from_entry_form : {p q : Reading} {ts : List Tok} (c : Counts) (e : Entry) → entry_form c p ≡ good e q → Reads q (closes ∷ ts) → EntryFits c e × Reads p (inner e ts)
 reads_from_entry_form {p} {q} {ts} c e f r =
     let (h, p1, e1, f1) = bind_parts (key_at p) _ e q f in
-    let x = entry_by_read c h h.key e f1 r in
+    let x = entry_by_read c h h.value e f1 r in
     (x.fits, subst (Reads p) (sym x.spelled) (reads_from_key e1 x.reads))
 
 -- an entry, as a line
@@ -270,9 +222,6 @@ none_from_reads c r lines =
 abbrev LineRead : Counts → Option Entry → Reading → Reading → Type 0
 LineRead c (Some e) p q = (us : List Tok) (forms : List (List Tok)) → Reads q us → Lines us forms → (ts : List Tok) × EntryFits c e × Reads p ts × Lines ts (entry_tokens e ∷ forms)
 LineRead c None p q = (ts : List Tok) × Reads p ts × Lines ts []
-
-some_not_none : {A : Type 0} {x : A} → Some x ≡ None → ⊥
-some_not_none h = let z : ◌≡◌ {A = ℕ} 0 1 = cc in omega arith
 
 entry_line_read : (p : Reading) (c : Counts) (next : Next) (s q : Reading) (o : Option Entry) → next_form p ≡ good next s → entry_line c next s ≡ good o q → LineRead c o p q
 entry_line_read p c (End at) s q o f e = subst (λ (x : Option Entry). LineRead c x p q) (good_value e) (reads_from_end f)
@@ -314,7 +263,7 @@ and_more_read p q s k c (Some x) es others line e =
     subst (λ (y : List Entry). EntriesRead c y p) (good_value g) (ts, (fit, fits), read, lines)
 
 pub entries_read : (k : ℕ) (c : Counts) (p q : Reading) (es : List Entry) → within_entries k c p ≡ good es q → EntriesRead c es p
-entries_read zero c p q es e = absurd (bad_not_good e)
+entries_read zero c p q es e = cc
 entries_read (suc k) c p q es e =
     let (o, s, f, g) = bind_parts (entry_at c p) _ es q e in
     and_more_read p q s k c o es (entries_read k c) (entry_read p s c o f) g

@@ -1,29 +1,25 @@
 -- A mode table, read step by step; the relation that these steps keep is in Grammar.
-use Rattle.std.specs.Prelude.{ℕ, zero, suc, ◌<◌, ◌≤◌, cond, ◌&&◌, List, [], ◌∷◌, ◌++◌, length, drop, replicate, Some, None, Ok, Err, codes, Option, Result, ◌==◌, nat_le, nat_lt}
+use Rattle.std.specs.Prelude.{ℕ, zero, suc, ◌<◌, ◌≤◌, cond, List, [], ◌∷◌, ◌++◌, length, drop, replicate, Some, None, Ok, Err, codes, Option, Result, ◌==◌, nat_lt}
 use Rattle.std.specs.Str.{bytes_eq}
 use Rattle.graph.specs.Meaning.{mode_limit, command_limit, flag_limit}
 use Rattle.words.specs.declared.fault.Fault.{Fault}
 use Rattle.words.specs.declared.fault.Place.{Place}
-use Rattle.words.specs.Numbers.{Refused, refused}
+use Rattle.words.specs.declared.token.Placed.{Placed}
+use Rattle.words.specs.Numbers.{Refused, refused, before_text}
 use Rattle.words.specs.Words.{Reading, Out, good, bad, bind, here, start, text_limit}
 use Rattle.forms.specs.declared.form.Next.{Next}
 use Rattle.forms.specs.declared.form.Next.TheVariants.{Form, End}
-use Rattle.forms.specs.Forms.{misplaced, closed, ended, named, numbered, next_form, taken, form_reading}
+use Rattle.forms.specs.Forms.{misplaced, beyond, named, number_in, form_end, next_form, taken, form_reading}
 use Rattle.list_graph.specs.Layout.{table_bytes, marked, joined}
 use Rattle.table.specs.declared.contents.Counts.{Counts}
 use Rattle.table.specs.declared.contents.Entry.{Entry}
 use Rattle.table.specs.declared.contents.Entry.TheVariants.{Mark, Arc}
 use Rattle.table.specs.declared.contents.Keyword.{Keyword}
 use Rattle.table.specs.declared.contents.Keyword.TheVariants as key
-use Rattle.table.specs.declared.table.Head.{Head}
 use Rattle.table.specs.declared.table.Table.{Table}
 
 abbrev pub table_reading : Table → Reading
 table_reading t = form_reading t.forms
-
--- a refusal by the limits
-abbrev pub beyond : {A : Type 0} → ℕ → Place → Reading → Out A
-beyond number at p = bad (record { number = number; text = p.text; layer = 3; place = at })
 
 -- which of the table's words it is
 abbrev pub key_of : List ℕ → Option Keyword
@@ -34,21 +30,13 @@ key_of w =
     (cond (bytes_eq w (codes "mark")) (Some key.Mark)
     (cond (bytes_eq w (codes "arc")) (Some key.Arc) None))))
 
-abbrev pub keyed : Option Keyword → Place → Reading → Out Head
-keyed (Some k) at p = good (record { key = k; place = at }) p
+abbrev pub keyed : Option Keyword → Place → Reading → Out (Placed Keyword)
+keyed (Some k) at p = good (record { value = k; place = at }) p
 keyed None at p = misplaced at p
 
 -- one of the table's words, and its place
-abbrev pub key_at : Reading → Out Head
+abbrev pub key_at : Reading → Out (Placed Keyword)
 key_at p = bind (taken named p) (λ w q. keyed (key_of w.bytes) w.place q)
-
--- a number from low on and below end
-abbrev pub number_in : ℕ → ℕ → Reading → Out ℕ
-number_in low end p = bind (taken numbered p) (λ n q. cond (nat_le low n.value && nat_lt n.value end) (good n.value q) (beyond 7 n.place q))
-
--- the end of a form, and of its line
-abbrev pub form_end : Reading → Out (Unit {0})
-form_end p = bind (taken closed p) (λ _ q. taken ended q)
 
 abbrev pub key_number : Keyword → ℕ
 key_number key.Modes = 0
@@ -58,8 +46,8 @@ key_number key.Mark = 3
 key_number key.Arc = 4
 
 -- the word that has to come next; another of the table's words is out of order
-abbrev pub in_order : Keyword → Head → Reading → Out (Unit {0})
-in_order want head p = cond (key_number want == key_number head.key) (good tt p) (beyond 6 head.place p)
+abbrev pub in_order : Keyword → Placed Keyword → Reading → Out (Unit {0})
+in_order want head p = cond (key_number want == key_number head.value) (good tt p) (beyond 6 head.place p)
 
 -- a head, after its bracket
 abbrev pub head_form : Keyword → ℕ → ℕ → Reading → Out ℕ
@@ -73,7 +61,7 @@ head_line want low end (End at) p = beyond 6 at p
 abbrev pub head_at : Keyword → ℕ → ℕ → Reading → Out ℕ
 head_at want low end p = bind (next_form p) (head_line want low end)
 
-abbrev pub entry_by : Counts → Head → Keyword → Reading → Out Entry
+abbrev pub entry_by : Counts → Placed Keyword → Keyword → Reading → Out Entry
 entry_by c head key.Modes p = beyond 6 head.place p
 entry_by c head key.Commands p = beyond 6 head.place p
 entry_by c head key.Flags p = beyond 6 head.place p
@@ -81,7 +69,7 @@ entry_by c head key.Mark p = bind (number_in 0 c.flags p) (λ f q. bind (number_
 entry_by c head key.Arc p = bind (number_in 0 c.commands p) (λ a q. bind (number_in 0 c.modes q) (λ u q. bind (number_in 0 c.modes q) (λ v q. good (Arc a u v) q)))
 
 abbrev pub entry_form : Counts → Reading → Out Entry
-entry_form c p = bind (key_at p) (λ head q. entry_by c head head.key q)
+entry_form c p = bind (key_at p) (λ head q. entry_by c head head.value q)
 
 abbrev pub entry_line : Counts → Next → Reading → Out (Option Entry)
 entry_line c Form p = bind (entry_form c p) (λ e q. bind (form_end q) (λ _ q. good (Some e) q))
@@ -175,17 +163,9 @@ abbrev pub lines_read : Result Counts Fault → List ℕ → Answer
 lines_read (Ok c) bytes = accepts c bytes
 lines_read (Err e) bytes = refuses (refused e) []
 
--- a refusal before the text is looked at
-abbrev pub before_text : ℕ → Refused
-before_text n = record { number = n; text = 1; layer = 0; place = record { line = 0; column = 0 } }
-
 -- the grounds on which nothing is read: 9 where the memory is shorter than a table, else 10 where the text is too long
 abbrev pub before_refusal : List ℕ → List ℕ → Option Refused
-before_refusal text memory = cond (nat_lt (length memory) table_bytes) (Some (before_text 9)) (cond (nat_lt text_limit (length text)) (Some (before_text 10)) None)
-
-abbrev pub refusal_in : Result (Unit {0}) Fault → Option Refused
-refusal_in (Ok _) = None
-refusal_in (Err e) = Some (refused e)
+before_refusal text memory = cond (nat_lt (length memory) table_bytes) (Some (before_text 1 9)) (cond (nat_lt text_limit (length text)) (Some (before_text 1 10)) None)
 
 abbrev pub answer_by : List ℕ → List ℕ → Option Refused → Answer
 answer_by text memory (Some e) = refuses e memory

@@ -1,5 +1,8 @@
 //! What a mode table says.
 
+ghost use Rattle.std.specs.Prelude.{◌≡◌};
+ghost use Rattle.table.specs.Table.{key_of};
+
 use graph::{Command, Flag, Mode};
 
 /// How many modes, commands and flags there are.
@@ -30,4 +33,20 @@ pub(crate) enum Keyword {
     Flags,
     Mark,
     Arc,
+}
+
+impl Keyword {
+    // Which of the table's words it is.
+    pub fn from_word(word: &[u8]) -> Option<Keyword>
+        ensures answer { result ≡ key_of word.now }
+    {
+        match word {
+            b"modes" => Some(Keyword::Modes),
+            b"commands" => Some(Keyword::Commands),
+            b"flags" => Some(Keyword::Flags),
+            b"mark" => Some(Keyword::Mark),
+            b"arc" => Some(Keyword::Arc),
+            _ => None,
+        }
+    }
 }

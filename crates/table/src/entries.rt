@@ -24,6 +24,7 @@ impl Entry {
 
 impl<'a> Table<'a> {
     // All lines to the text's end, each set in the bytes.
+    #[tactic(auto, unfolding(crate::specs::Table::entries_from))]
     pub(crate) fn entries(&mut self, counts: Counts, bytes: &mut [u8]) -> Result<(), Fault>
         ensures memory { laid_read result (table_reading self.new) bytes.new ≡ laid (entries_from counts (table_reading self.old)) bytes.old }
     {
@@ -41,7 +42,7 @@ impl<'a> Table<'a> {
         match self.forms.next_form()? {
             Next::Form => {
                 let entry = self.entry_form(counts)?;
-                self.form_end()?;
+                self.forms.form_end()?;
                 Ok(Some(entry))
             }
             Next::End(_) => Ok(None),
@@ -54,19 +55,19 @@ impl<'a> Table<'a> {
         ensures shorter { left self.new.forms.words ≤ left self.old.forms.words }
     {
         let head = self.head()?;
-        match head.key {
+        match head.value {
             Keyword::Mark => {
-                let p = self.number_in(0, counts.flags)?;
-                let u = self.number_in(0, counts.modes)?;
+                let p = self.forms.number_in(0..counts.flags)?;
+                let u = self.forms.number_in(0..counts.modes)?;
                 Ok(Entry::Mark(p, u))
             }
             Keyword::Arc => {
-                let a = self.number_in(0, counts.commands)?;
-                let u = self.number_in(0, counts.modes)?;
-                let v = self.number_in(0, counts.modes)?;
+                let a = self.forms.number_in(0..counts.commands)?;
+                let u = self.forms.number_in(0..counts.modes)?;
+                let v = self.forms.number_in(0..counts.modes)?;
                 Ok(Entry::Arc(a, u, v))
             }
-            _ => Err(self.beyond(Reason::OutOfOrder, head.place)),
+            _ => Err(self.forms.beyond(Reason::OutOfOrder, head.place)),
         }
     }
 }

@@ -8,6 +8,7 @@ use crate::contents::{Counts, Keyword};
 use crate::table::Table;
 use forms::Next;
 use graph::{COMMAND_LIMIT, FLAG_LIMIT, MODE_LIMIT};
+use std::ops::Range;
 use words::{Fault, Reason};
 
 impl<'a> Table<'a> {
@@ -15,9 +16,9 @@ impl<'a> Table<'a> {
     pub(crate) fn counts(&mut self) -> Result<Counts, Fault>
         ensures reads { outcome result (table_reading self.new) ≡ heads_at (table_reading self.old) }
     {
-        let modes = self.count(Keyword::Modes, 1, MODE_LIMIT + 1)?;
-        let commands = self.count(Keyword::Commands, 1, COMMAND_LIMIT + 1)?;
-        let flags = self.count(Keyword::Flags, 0, FLAG_LIMIT + 1)?;
+        let modes = self.count(Keyword::Modes, 1..MODE_LIMIT + 1)?;
+        let commands = self.count(Keyword::Commands, 1..COMMAND_LIMIT + 1)?;
+        let flags = self.count(Keyword::Flags, 0..FLAG_LIMIT + 1)?;
         Ok(Counts {
             modes,
             commands,
@@ -25,26 +26,26 @@ impl<'a> Table<'a> {
         })
     }
 
-    // The line of the head that has to come next: its count, from low on and below end.
-    fn count(&mut self, want: Keyword, low: u8, end: u8) -> Result<u8, Fault>
-        ensures reads { outcome result (table_reading self.new) ≡ head_at want low end (table_reading self.old) }
+    // The line of the head that has to come next: its count, in the range.
+    fn count(&mut self, want: Keyword, range: Range<u8>) -> Result<u8, Fault>
+        ensures reads { outcome result (table_reading self.new) ≡ head_at want range.start range.end (table_reading self.old) }
     {
         match self.forms.next_form()? {
-            Next::Form => self.count_form(want, low, end),
-            Next::End(place) => Err(self.beyond(Reason::OutOfOrder, place)),
+            Next::Form => self.count_form(want, range),
+            Next::End(place) => Err(self.forms.beyond(Reason::OutOfOrder, place)),
         }
     }
 
     // The rest of that line, after its bracket.
-    fn count_form(&mut self, want: Keyword, low: u8, end: u8) -> Result<u8, Fault>
-        ensures reads { outcome result (table_reading self.new) ≡ head_form want low end (table_reading self.old) }
+    fn count_form(&mut self, want: Keyword, range: Range<u8>) -> Result<u8, Fault>
+        ensures reads { outcome result (table_reading self.new) ≡ head_form want range.start range.end (table_reading self.old) }
     {
         let head = self.head()?;
-        if head.key != want {
-            return Err(self.beyond(Reason::OutOfOrder, head.place));
+        if head.value != want {
+            return Err(self.forms.beyond(Reason::OutOfOrder, head.place));
         }
-        let n = self.number_in(low, end)?;
-        self.form_end()?;
+        let n = self.forms.number_in(range)?;
+        self.forms.form_end()?;
         Ok(n)
     }
 }

@@ -4,7 +4,6 @@
 mod contents;
 mod entries;
 mod heads;
-mod limits;
 mod read;
 mod table;
 

@@ -1,8 +1,12 @@
 //! A view over a table's text, line by line.
 
+ghost use Rattle.std.specs.Prelude.{◌≡◌, ◌≤◌};
+ghost use Rattle.table.specs.Table.{key_at, table_reading};
+ghost use Rattle.words.specs.Words.{left, outcome};
+
 use crate::contents::Keyword;
 use forms::Forms;
-use words::Place;
+use words::{Fault, Placed};
 
 // The forms of the text, to be held to the table's limits.
 #[derive(Drop)]
@@ -10,9 +14,19 @@ pub(crate) struct Table<'a> {
     pub(crate) forms: Forms<'a>,
 }
 
-// The word of a line, and its place.
-#[derive(Clone, Copy)]
-pub(crate) struct Head {
-    pub key: Keyword,
-    pub place: Place,
+impl<'a> Table<'a> {
+    // The word of a line, with its place.
+    pub(crate) fn head(&mut self) -> Result<Placed<Keyword>, Fault>
+        ensures reads { outcome result (table_reading self.new) ≡ key_at (table_reading self.old) }
+        ensures shorter { left self.new.forms.words ≤ left self.old.forms.words }
+    {
+        let name = self.forms.name()?;
+        match Keyword::from_word(name.value) {
+            Some(value) => Ok(Placed {
+                value,
+                place: name.place,
+            }),
+            None => Err(self.forms.misplaced(name.place)),
+        }
+    }
 }

@@ -1,15 +1,14 @@
 -- The tokens that reading gives up to the text's end are those that the text spells.
 use Rattle.std.proofs.Common.{◌≡◌, ℕ, suc, ◌+◌, ◌<◌, ◌≤◌, Bool, true, false, cond, ◌&&◌, ◌||◌, eqb, leb, List, [], ◌∷◌, ◌++◌, length, take, drop, Some, None, Ok, Err, Result, sym, refl, ap, ◌∙◌, subst, inl, inr, add-zero, arith, length-append}
-use Rattle.std.specs.Char.{is_ascii_digit, is_ascii_alphabetic}
+use Rattle.std.specs.List.{list_all, prefix_len}
+use Rattle.std.specs.Char.{is_ascii_digit, is_ascii_alphabetic, is_ascii_alphanumeric}
 use Rattle.std.proofs.lemmas.List.{drop_at, take_at, take-append-drop}
-use Rattle.std.proofs.lemmas.Bool.{eqb-true, eqb-false, eq-eqb, ne_eqb, leb-true, le-leb, or_left, or_right, and_parts, cases_Bool, cond_both}
+use Rattle.std.proofs.lemmas.Bool.{eqb-true, eqb-false, ne_eqb, leb-true, le-leb, or_left, or_right, and_parts, and_from, cases_Bool, cond_both}
 use Rattle.std.proofs.lemmas.Bool.Decides.{nat_tests}
 use Rattle.words.specs.declared.fault.Place.{Place}
 use Rattle.words.specs.declared.fault.Reason.{Reason}
 use Rattle.words.specs.declared.fault.Reason.TheVariants.{BadWord}
-use Rattle.words.specs.declared.run.Class.{Class}
-use Rattle.words.specs.declared.run.Class.TheVariants.{Space, Letter, Digit, Run}
-use Rattle.words.specs.Words.{Tok, word, number, opens, closes, line_end, text_end, TokenAt, Reading, Out, good, bad, within, prefix, number_of, number_token, run_token, read_run, run_from, classify, token_from, moved, here, next_token}
+use Rattle.words.specs.Words.{Tok, word, number, opens, closes, line_end, text_end, TokenAt, Reading, Out, good, bad, number_of, number_token, run_length, run_token, read_run, run_from, classify, token_from, moved, here, next_token}
 use Rattle.words.specs.Spelling.{Numeral, one_digit, two_digits, three_digits, Letters, RunSpells, run_number, run_word, RunEnds, Spells, spells_nothing, spells_space, spells_line_end, spells_opens, spells_closes, spells_run}
 use Rattle.words.proofs.Runs.{run_good}
 
@@ -51,18 +50,22 @@ by_test false f g e = g refl e
 
 -- a refusal is no result, and a result is one
 not_ok : {t : Tok} {r : Reason} → ◌≡◌ {A = Result Tok Reason} (Err r) (Ok t) → ⊥
-not_ok e = let z : ◌≡◌ {A = ℕ} 0 1 = cc in omega arith
+not_ok e = cc
 
 ok_value : {t u : Tok} → ◌≡◌ {A = Result Tok Reason} (Ok t) (Ok u) → t ≡ u
 ok_value e = cc
+
+-- std counts from the front
+one_more : (n : ℕ) → 1 + n ≡ suc n
+one_more n = omega arith
 
 -- the next token behind a space is the next token
 past_space : (bs : List ℕ) (l c x : ℕ) → next_token (at (32 ∷ bs) l c x) ≡ next_token (at bs l (c + 1) x)
 unfolding next_token
 past_space bs l c x =
-    let n = prefix Space bs in
+    let n = prefix_len (λ b. eqb b 32) bs in
     let e : c + suc n ≡ c + 1 + n = omega arith in
-    ap (λ (k : ℕ). token_from (drop n bs) (at (drop n bs) l k x)) e
+    rw one_more (ap (λ (k : ℕ). token_from (drop n bs) (at (drop n bs) l k x)) e)
 
 -- a byte that is no space begins the next token
 no_space : (b : ℕ) (bs : List ℕ) (l c x : ℕ) → eqb b 32 ≡ false → next_token (at (b ∷ bs) l c x) ≡ classify b (at (b ∷ bs) l c x)
@@ -73,8 +76,12 @@ no_space b bs l c x h = rw (h, add-zero) refl
 letter_no_digit : (b : ℕ) → is_ascii_alphabetic b ≡ true → is_ascii_digit b ≡ false
 letter_no_digit b h = grind (arith, nat_tests)
 
+-- letters and digits are one class of std
+same_classes : (b : ℕ) → is_ascii_alphanumeric b ≡ (is_ascii_alphabetic b || is_ascii_digit b)
+same_classes b = grind (arith, nat_tests)
+
 -- a letter or a digit is neither a space nor a mark
-module _ (b : ℕ) (h : (is_ascii_alphabetic b || is_ascii_digit b) ≡ true) where
+module _ (b : ℕ) (h : is_ascii_alphanumeric b ≡ true) where
   run_no_space : eqb b 32 ≡ false
   run_no_space = grind (arith, nat_tests)
 
@@ -85,43 +92,44 @@ module _ (b : ℕ) (h : (is_ascii_alphabetic b || is_ascii_digit b) ≡ true) wh
       let c : eqb b 41 ≡ false = grind (arith, nat_tests) in
       rw (n, o, c) refl
 
--- all bytes are of the class
-abbrev Full : Class → List ℕ → Type 0
-Full k bs = prefix k bs ≡ length bs
+-- all bytes pass the test
+abbrev Full : (ℕ → Bool) → List ℕ → Type 0
+Full p bs = list_all p bs ≡ true
 
--- one byte more of the class, and one less
-full_cons : (k : Class) (b : ℕ) (bs : List ℕ) → within k b ≡ true → Full k bs → Full k (b ∷ bs)
-full_cons k b bs h e = rw h (ap suc e)
+-- one byte more that passes, and one less
+full_cons : (p : ℕ → Bool) (b : ℕ) (bs : List ℕ) → p b ≡ true → Full p bs → Full p (b ∷ bs)
+full_cons p b bs h all = and_from (p b) (list_all p bs) h all
 
-full_parts : (k : Class) (b : ℕ) (bs : List ℕ) → Full k (b ∷ bs) → (within k b ≡ true) × Full k bs
-full_parts k b bs = by_test (within k b) (λ h e. (h, omega arith)) (λ h e. absurd (omega arith))
+full_parts : (p : ℕ → Bool) (b : ℕ) (bs : List ℕ) → Full p (b ∷ bs) → (p b ≡ true) × Full p bs
+full_parts p b bs all = and_parts (p b) (list_all p bs) all
 
--- letters are of each class that holds the letters, and a numeral of each that holds the digits
-full_letters : (k : Class) → ((b : ℕ) → is_ascii_alphabetic b ≡ true → within k b ≡ true) → (run : List ℕ) → Letters run → Full k run
-full_letters k wider [] all = refl
-full_letters k wider (b ∷ run) (h, all) = full_cons k b run (wider b h) (full_letters k wider run all)
+-- letters pass each test that the letters pass, and a numeral each that the digits pass
+full_letters : (p : ℕ → Bool) → ((b : ℕ) → is_ascii_alphabetic b ≡ true → p b ≡ true) → (run : List ℕ) → Letters run → Full p run
+full_letters p wider [] all = refl
+full_letters p wider (b ∷ run) (h, all) = full_cons p b run (wider b h) (full_letters p wider run all)
 
-full_numeral : (k : Class) → ((b : ℕ) → is_ascii_digit b ≡ true → within k b ≡ true) → {run : List ℕ} {n : ℕ} → Numeral run n → Full k run
-full_numeral k wider (one_digit {a} f) = full_cons k a [] (wider a f) refl
-full_numeral k wider (two_digits {a} {b} f g _) = full_cons k a (b ∷ []) (wider a f) (full_cons k b [] (wider b g) refl)
-full_numeral k wider (three_digits {a} {b} {c} f g h _) = full_cons k a (b ∷ c ∷ []) (wider a f) (full_cons k b (c ∷ []) (wider b g) (full_cons k c [] (wider c h) refl))
+full_numeral : (p : ℕ → Bool) → ((b : ℕ) → is_ascii_digit b ≡ true → p b ≡ true) → {run : List ℕ} {n : ℕ} → Numeral run n → Full p run
+full_numeral p wider (one_digit {a} f) = full_cons p a [] (wider a f) refl
+full_numeral p wider (two_digits {a} {b} f g _) = full_cons p a (b ∷ []) (wider a f) (full_cons p b [] (wider b g) refl)
+full_numeral p wider (three_digits {a} {b} {c} f g h _) = full_cons p a (b ∷ c ∷ []) (wider a f) (full_cons p b (c ∷ []) (wider b g) (full_cons p c [] (wider c h) refl))
 
 -- a run is of letters and digits alone
-full_run : {run : List ℕ} {t : Tok} → RunSpells run t → Full Run run
-full_run (run_number n) = full_numeral Run (λ b h. or_right (is_ascii_alphabetic b) (is_ascii_digit b) h) n
-full_run (run_word {run} all _ _) = full_letters Run (λ b h. or_left (is_ascii_alphabetic b) (is_ascii_digit b) h) run all
+full_run : {run : List ℕ} {t : Tok} → RunSpells run t → Full is_ascii_alphanumeric run
+full_run (run_number n) = full_numeral is_ascii_alphanumeric (λ b h. same_classes b ∙ or_right (is_ascii_alphabetic b) (is_ascii_digit b) h) n
+full_run (run_word {run} all _ _) = full_letters is_ascii_alphanumeric (λ b h. same_classes b ∙ or_left (is_ascii_alphabetic b) (is_ascii_digit b) h) run all
 
--- a stretch of a class before a byte of none
-prefix_join : (k : Class) (run bs : List ℕ) → Full k run → prefix k bs ≡ 0 → prefix k (run ++ bs) ≡ length run
-prefix_join k [] bs full stop = stop
-prefix_join k (b ∷ run) bs full stop =
-    let (h, more) = full_parts k b run full in
-    rw h (ap suc (prefix_join k run bs more stop))
+-- bytes that all pass, before one that does not
+prefix_join : (p : ℕ → Bool) (run bs : List ℕ) → Full p run → prefix_len p bs ≡ 0 → prefix_len p (run ++ bs) ≡ length run
+prefix_join p [] bs full stop = stop
+prefix_join p (b ∷ run) bs full stop =
+    let (h, more) = full_parts p b run full in
+    let rest = prefix_join p run bs more stop in
+    rw h (omega arith)
 
 -- what ends a run begins none
-ends_stop : (bs : List ℕ) → RunEnds bs → prefix Run bs ≡ 0
+ends_stop : (bs : List ℕ) → RunEnds bs → run_length bs ≡ 0
 ends_stop [] _ = refl
-ends_stop (b ∷ bs) h = rw h refl
+ends_stop (b ∷ bs) h = let none = same_classes b ∙ h in rw none refl
 
 -- the number of a numeral
 numeral_number : {run : List ℕ} {n : ℕ} → Numeral run n → number_of run ≡ Some n
@@ -130,31 +138,30 @@ numeral_number (two_digits {a} _ _ h) = let z = ne_eqb a 48 h in rw z refl
 numeral_number (three_digits {a} _ _ _ h) = let z = ne_eqb a 48 h in rw z refl
 
 -- letters write no number
-letters_no_number : (run : List ℕ) → Letters run → 1 ≤ length run → eqb (prefix Digit run) (length run) ≡ false
+letters_no_number : (run : List ℕ) → Letters run → 1 ≤ length run → list_all is_ascii_digit run ≡ false
 letters_no_number [] all some = absurd (omega arith)
-letters_no_number (b ∷ run) (h, all) some = let d = letter_no_digit b h in
-    rw d (ne_eqb 0 (suc (length run)) (λ e. omega arith))
+letters_no_number (b ∷ run) (h, all) some = let d = letter_no_digit b h in rw d refl
 
 -- what a run spells is the token that the program takes it for
 run_from_spells : {run : List ℕ} {t : Tok} → RunSpells run t → run_token run ≡ Ok t
 run_from_spells (run_number {run} {n} h) =
-    let d = eq-eqb (prefix Digit run) (length run) (full_numeral Digit (λ b h. h) h) in
+    let d = full_numeral is_ascii_digit (λ b h. h) h in
     let v = numeral_number h in
     rw (d, v) refl
 run_from_spells (run_word {run} all some short) =
     let d = letters_no_number run all some in
-    let f = eq-eqb (prefix Letter run) (length run) (full_letters Letter (λ b h. h) run all) in
+    let f = full_letters is_ascii_alphabetic (λ b h. h) run all in
     let s = le-leb (length run) 8 short in
-    rw (d, f, s) refl
+    rw (d, s, f) refl
 
 -- a run and what ends it, read
-run_read : (run bs : List ℕ) (t : Tok) → Full Run run → run_token run ≡ Ok t → RunEnds bs → (l c x : ℕ) → next_token (at (run ++ bs) l c x) ≡ good (record { tok = t; place = record { line = l; column = c } }) (at bs l (c + length run) x)
-run_read [] bs t full is ends l c x = absurd (not_ok is)
+run_read : (run bs : List ℕ) (t : Tok) → Full is_ascii_alphanumeric run → run_token run ≡ Ok t → RunEnds bs → (l c x : ℕ) → next_token (at (run ++ bs) l c x) ≡ good (record { tok = t; place = record { line = l; column = c } }) (at bs l (c + length run) x)
+run_read [] bs t full is ends l c x = cc
 run_read (b ∷ run) bs t full is ends l c x =
-    let h = (full_parts Run b run full).0 in
+    let h = (full_parts is_ascii_alphanumeric b run full).0 in
     let p = at (b ∷ (run ++ bs)) l c x in
     let n = suc (length run) in
-    let long : n ≡ prefix Run p.rest = sym (prefix_join Run (b ∷ run) bs full (ends_stop bs ends)) in
+    let long : n ≡ run_length p.rest = sym (prefix_join is_ascii_alphanumeric (b ∷ run) bs full (ends_stop bs ends)) in
     let cut : b ∷ run ≡ take n p.rest = sym (take_at (b ∷ run) bs n refl) in
     no_space b (run ++ bs) l c x (run_no_space b h) ∙ run_no_mark b h p
     ∙ sym (run_good p n (b ∷ run) long (λ z. omega arith) cut t (sym is))
@@ -187,54 +194,54 @@ reads_from_spells p s = spelled_at s p.line p.column p.text
 
 -- a number that the program accepts has no needless zero
 no_zero : (a n : ℕ) (t : Tok) → number_token (cond (eqb a 48) None (Some n)) ≡ Ok t → (a ≡ 48 → ⊥) × (number n ≡ t)
-no_zero a n t = cond_both (eqb a 48) None (Some n) (λ o. number_token o ≡ Ok t → (a ≡ 48 → ⊥) × (number n ≡ t)) (λ h e. absurd (not_ok e)) (λ h e. (eqb-false a 48 h, ok_value e))
+no_zero a n t = cond_both (eqb a 48) None (Some n) (λ o. number_token o ≡ Ok t → (a ≡ 48 → ⊥) × (number n ≡ t)) (λ h e. cc) (λ h e. (eqb-false a 48 h, ok_value e))
 
 -- the number that the program takes digits for is what they spell
-number_spelled : (run : List ℕ) (t : Tok) → Full Digit run → number_token (number_of run) ≡ Ok t → RunSpells run t
-number_spelled [] t full e = absurd (not_ok e)
+number_spelled : (run : List ℕ) (t : Tok) → Full is_ascii_digit run → number_token (number_of run) ≡ Ok t → RunSpells run t
+number_spelled [] t full e = cc
 number_spelled (a ∷ []) t full e =
-    let f = (full_parts Digit a [] full).0 in
+    let f = (full_parts is_ascii_digit a [] full).0 in
     subst (RunSpells (a ∷ [])) (ok_value e) (run_number (one_digit f))
 number_spelled (a ∷ b ∷ []) t full e =
-    let (f, more) = full_parts Digit a (b ∷ []) full in
-    let g = (full_parts Digit b [] more).0 in
+    let (f, more) = full_parts is_ascii_digit a (b ∷ []) full in
+    let g = (full_parts is_ascii_digit b [] more).0 in
     let (real, same) = no_zero a _ t e in
     subst (RunSpells (a ∷ b ∷ [])) same (run_number (two_digits f g real))
 number_spelled (a ∷ b ∷ c ∷ []) t full e =
-    let (f, more) = full_parts Digit a (b ∷ c ∷ []) full in
-    let (g, last) = full_parts Digit b (c ∷ []) more in
-    let h = (full_parts Digit c [] last).0 in
+    let (f, more) = full_parts is_ascii_digit a (b ∷ c ∷ []) full in
+    let (g, last) = full_parts is_ascii_digit b (c ∷ []) more in
+    let h = (full_parts is_ascii_digit c [] last).0 in
     let (real, same) = no_zero a _ t e in
     subst (RunSpells (a ∷ b ∷ c ∷ [])) same (run_number (three_digits f g h real))
-number_spelled (a ∷ b ∷ c ∷ d ∷ run) t full e = absurd (not_ok e)
+number_spelled (a ∷ b ∷ c ∷ d ∷ run) t full e = cc
 
--- a run of the class of letters is of letters alone
-letters_full : (run : List ℕ) → Full Letter run → Letters run
+-- a run whose bytes are all letters is of letters alone
+letters_full : (run : List ℕ) → Full is_ascii_alphabetic run → Letters run
 letters_full [] full = tt
 letters_full (b ∷ run) full =
-    let (h, more) = full_parts Letter b run full in
+    let (h, more) = full_parts is_ascii_alphabetic b run full in
     (h, letters_full run more)
 
 -- the word that the program takes a run for is what it spells
-word_spelled : (run : List ℕ) (t : Tok) → 1 ≤ length run → cond (eqb (prefix Letter run) (length run) && leb (length run) 8) (Ok (word run)) (Err BadWord) ≡ Ok t → RunSpells run t
+word_spelled : (run : List ℕ) (t : Tok) → 1 ≤ length run → cond (leb (length run) 8 && list_all is_ascii_alphabetic run) (Ok (word run)) (Err BadWord) ≡ Ok t → RunSpells run t
 word_spelled run t some =
-    by_test (eqb (prefix Letter run) (length run) && leb (length run) 8)
-    (λ h e. let (f, s) = and_parts (eqb (prefix Letter run) (length run)) (leb (length run) 8) h in subst (RunSpells run) (ok_value e) (run_word (letters_full run (eqb-true (prefix Letter run) (length run) f)) some (leb-true (length run) 8 s)))
-    (λ h e. absurd (not_ok e))
+    by_test (leb (length run) 8 && list_all is_ascii_alphabetic run)
+    (λ h e. let (s, f) = and_parts (leb (length run) 8) (list_all is_ascii_alphabetic run) h in subst (RunSpells run) (ok_value e) (run_word (letters_full run f) some (leb-true (length run) 8 s)))
+    (λ h e. cc)
 
 -- the token that the program takes a run for is what the run spells
 run_spelled : (run : List ℕ) (t : Tok) → run_token run ≡ Ok t → RunSpells run t
-run_spelled [] t e = absurd (not_ok e)
+run_spelled [] t e = cc
 run_spelled (b ∷ run) t e =
-    by_test (eqb (prefix Digit (b ∷ run)) (length (b ∷ run)))
-    (λ h e. number_spelled (b ∷ run) t (eqb-true (prefix Digit (b ∷ run)) (length (b ∷ run)) h) e)
+    by_test (list_all is_ascii_digit (b ∷ run))
+    (λ h e. number_spelled (b ∷ run) t h e)
     (λ h e. word_spelled (b ∷ run) t (omega arith) e)
     e
 
 -- the longest run at the front ends
-front_ends : (bs : List ℕ) → RunEnds (drop (prefix Run bs) bs)
+front_ends : (bs : List ℕ) → RunEnds (drop (run_length bs) bs)
 front_ends [] = tt
-front_ends (b ∷ bs) = cond_both (within Run b) _ _ (λ n. RunEnds (drop n (b ∷ bs))) (λ h. front_ends bs) (λ h. h)
+front_ends (b ∷ bs) = cond_both (is_ascii_alphanumeric b) _ _ (λ n. RunEnds (drop n (b ∷ bs))) (λ h. rw one_more (front_ends bs)) (λ h. sym (same_classes b) ∙ h)
 
 -- the first token of some bytes, and how it goes before what the bytes after it spell
 data First : List ℕ → Tok → List ℕ → Type 0 where
@@ -264,7 +271,7 @@ run_begins p = cond_both (eqb n 0) _ _ (Begins bs) (λ h. tt) (λ h. go (run_tok
     bs = p.rest
 
     n : ℕ
-    n = prefix Run bs
+    n = run_length bs
 
     go : (r : Result Tok Reason) → run_token (take n bs) ≡ r → Begins bs (read_run r p (moved p n))
     go (Ok t) e =
@@ -331,10 +338,10 @@ text_end_stays p q e =
 -- no byte spells no token
 spells_none : {bs : List ℕ} {ts : List Tok} → Spells bs ts → bs ≡ [] → ts ≡ []
 spells_none spells_nothing e = refl
-spells_none (spells_space _) e = absurd (omega (arith, ap length e))
-spells_none (spells_line_end _) e = absurd (omega (arith, ap length e))
-spells_none (spells_opens _) e = absurd (omega (arith, ap length e))
-spells_none (spells_closes _) e = absurd (omega (arith, ap length e))
+spells_none (spells_space _) e = cc
+spells_none (spells_line_end _) e = cc
+spells_none (spells_opens _) e = cc
+spells_none (spells_closes _) e = cc
 spells_none (spells_run {run} {bs} r _ _) e = absurd (omega (arith, run_some r, ap length e, length-append run bs))
 
 -- from where no byte is left no token is read

@@ -39,6 +39,10 @@ pub record Refused : Type 0 where
   pub layer : ℕ
   pub place : Place
 
+-- a refusal before the text is looked at
+abbrev pub before_text : ℕ → ℕ → Refused
+before_text text number = record { number = number; text = text; layer = 0; place = record { line = 0; column = 0 } }
+
 -- a fault of the program, by these numbers
 abbrev pub refused : Fault → Refused
 refused f = record { number = reason_number f.reason; text = text_number f.text; layer = layer_number f.layer; place = f.place }

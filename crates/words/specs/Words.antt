@@ -1,12 +1,11 @@
 -- The next token of a text, step by step; the relation that these steps keep is in Spelling.
-use Rattle.std.specs.Prelude.{ℕ, suc, ◌+◌, ◌-◌, ◌*◌, Bool, cond, ◌&&◌, ◌||◌, List, [], ◌∷◌, length, take, drop, Some, None, Ok, Err, Option, Result, ◌==◌, nat_le}
-use Rattle.std.specs.Char.{is_ascii_digit, is_ascii_alphabetic}
+use Rattle.std.specs.Prelude.{ℕ, ◌+◌, ◌-◌, ◌*◌, cond, ◌&&◌, List, [], ◌∷◌, length, take, drop, Some, None, Ok, Err, Option, Result, ◌==◌, nat_le}
+use Rattle.std.specs.List.{list_all, prefix_len}
+use Rattle.std.specs.Char.{is_ascii_digit, is_ascii_alphabetic, is_ascii_alphanumeric}
 use Rattle.words.specs.declared.fault.Fault.{Fault}
 use Rattle.words.specs.declared.fault.Place.{Place}
 use Rattle.words.specs.declared.fault.Reason.{Reason}
 use Rattle.words.specs.declared.fault.Reason.TheVariants.{BadByte, BadNumber, BadWord}
-use Rattle.words.specs.declared.run.Class.{Class}
-use Rattle.words.specs.declared.run.Class.TheVariants.{Space, Letter, Digit, Run}
 use Rattle.words.specs.declared.token.Token.{Token}
 use Rattle.words.specs.declared.token.Token.TheVariants.{Word, Number, Open, Close, LineEnd, TextEnd}
 use Rattle.words.specs.declared.token.Placed.{Placed}
@@ -47,7 +46,7 @@ pub record Reading : Type 0 where
   pub text : ℕ
 
 abbrev pub reading : Words → Reading
-reading w = record { rest = w.rest.now; line = w.line; column = w.column; text = text_number w.text }
+reading w = record { rest = w.rest.now; line = w.place.line; column = w.place.column; text = text_number w.text }
 
 -- what a step of reading gives: a value and where reading goes on, or a refusal
 pub data Out (A : Type 0) : Type 0 where
@@ -58,26 +57,14 @@ abbrev pub outcome : {A : Type 0} → Result A Fault → Reading → Out A
 outcome (Ok a) p = good a p
 outcome (Err e) p = bad (refused e)
 
-abbrev pub token_read : Result Placed Fault → Reading → Out TokenAt
-token_read (Ok t) p = good (record { tok = tok t.token; place = t.place }) p
+abbrev pub token_read : Result (Placed Token) Fault → Reading → Out TokenAt
+token_read (Ok t) p = good (record { tok = tok t.value; place = t.place }) p
 token_read (Err e) p = bad (refused e)
 
 -- a step, and another one from there
 abbrev pub bind : {A B : Type 0} → Out A → (A → Reading → Out B) → Out B
 bind (good a p) f = f a p
 bind (bad e) f = bad e
-
--- the kinds of byte
-abbrev pub within : Class → ℕ → Bool
-within Space b = b == 32
-within Letter b = is_ascii_alphabetic b
-within Digit b = is_ascii_digit b
-within Run b = is_ascii_alphabetic b || is_ascii_digit b
-
--- how many bytes at the front are of the class
-abbrev pub prefix : Class → List ℕ → ℕ
-prefix k [] = 0
-prefix k (b ∷ bs) = cond (within k b) (suc (prefix k bs)) 0
 
 -- the number that one to three digits with no needless leading zero write
 abbrev pub number_of : List ℕ → Option ℕ
@@ -94,8 +81,8 @@ number_token None = Err BadNumber
 -- what a run of letters and digits is
 abbrev pub run_token : List ℕ → Result Tok Reason
 run_token run =
-    cond (prefix Digit run == length run) (number_token (number_of run))
-    (cond (prefix Letter run == length run && nat_le (length run) 8) (Ok (word run)) (Err BadWord))
+    cond (list_all is_ascii_digit run) (number_token (number_of run))
+    (cond (nat_le (length run) 8 && list_all is_ascii_alphabetic run) (Ok (word run)) (Err BadWord))
 
 abbrev pub run_tok : Result Token Reason → Result Tok Reason
 run_tok (Ok t) = Ok (tok t)
@@ -123,11 +110,15 @@ abbrev pub read_run : Result Tok Reason → Reading → Reading → Out TokenAt
 read_run (Ok t) p q = token_here t p q
 read_run (Err r) p q = bad (word_fault r p.text (here p))
 
+-- how many letters and digits stand at the front
+abbrev pub run_length : List ℕ → ℕ
+run_length bs = prefix_len is_ascii_alphanumeric bs
+
 -- the run that begins here; a byte that begins none is a fault
 abbrev pub run_from : Reading → Out TokenAt
 run_from p =
-    cond (prefix Run p.rest == 0) (bad (word_fault BadByte p.text (here p)))
-    (read_run (run_token (take (prefix Run p.rest) p.rest)) p (moved p (prefix Run p.rest)))
+    cond (run_length p.rest == 0) (bad (word_fault BadByte p.text (here p)))
+    (read_run (run_token (take (run_length p.rest) p.rest)) p (moved p (run_length p.rest)))
 
 -- the token that begins with the byte b
 abbrev pub classify : ℕ → Reading → Out TokenAt
@@ -143,7 +134,7 @@ token_from (b ∷ bs) p = classify b p
 
 -- the next token after any spaces
 unfoldable pub next_token : Reading → Out TokenAt
-next_token p = let q = moved p (prefix Space p.rest) in token_from q.rest q
+next_token p = let q = moved p (prefix_len (λ b. b == 32) p.rest) in token_from q.rest q
 
 -- a text before its first byte
 abbrev pub start : List ℕ → ℕ → Reading
@@ -162,6 +153,6 @@ size Close = 1
 size LineEnd = 1
 size TextEnd = 0
 
-abbrev pub eaten : Result Placed Fault → ℕ
-eaten (Ok t) = size t.token
+abbrev pub eaten : Result (Placed Token) Fault → ℕ
+eaten (Ok t) = size t.value
 eaten (Err e) = 0

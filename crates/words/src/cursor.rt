@@ -2,7 +2,7 @@
 
 ghost use Rattle.std.specs.Prelude.{◌≡◌, ◌+◌, ◌≤◌, length};
 
-use crate::fault::Text;
+use crate::fault::{Place, Text};
 
 /// No text is longer than this many bytes.
 pub const TEXT_LIMIT: usize = 32768;
@@ -11,11 +11,10 @@ pub const TEXT_LIMIT: usize = 32768;
 #[derive(Drop)]
 pub struct Words<'a> {
     pub(crate) rest: &'a [u8],
-    pub(crate) line: u16,
-    pub(crate) column: u16,
+    pub(crate) place: Place,
     pub(crate) text: Text,
-    ghost lines: { line + length rest.now ≤ 32769 },
-    ghost columns: { column + length rest.now ≤ 32769 },
+    ghost lines: { place.line + length rest.now ≤ 32769 },
+    ghost columns: { place.column + length rest.now ≤ 32769 },
 }
 
 impl<'a> Words<'a> {

@@ -1,55 +1,55 @@
 //! Why a text is refused, and where: one type for all three layers and all three texts.
 
 ghost use Rattle.std.specs.Prelude.{◌≡◌};
-ghost use Rattle.words.specs.Numbers.{layer_number, reason_number, text_number};
+ghost use Rattle.words.specs.Numbers.{before_text, layer_number, reason_number, refused, text_number};
 
 /// Which text it is.
 #[derive(Clone, Copy, PartialEq, Eq, Debug)]
 pub enum Text {
     /// A mode table.
-    Table,
+    Table = 1,
     /// A claim sheet.
-    Sheet,
+    Sheet = 2,
     /// A line of evidence.
-    Evidence,
+    Evidence = 3,
 }
 
 /// Which layer found the fault.
 #[derive(Clone, Copy, PartialEq, Eq, Debug)]
 pub enum Layer {
     /// None: it was refused before the text was looked at.
-    Before,
+    Before = 0,
     /// The bytes make no token.
-    Words,
+    Words = 1,
     /// The token may not stand at its place.
-    Forms,
+    Forms = 2,
     /// The token is past a limit of the text.
-    Limits,
+    Limits = 3,
 }
 
 /// What is wrong with the token, or with what was handed in.
 #[derive(Clone, Copy, PartialEq, Eq, Debug)]
 pub enum Reason {
     /// A byte other than a letter, a digit, a bracket, a space or byte 10.
-    BadByte,
+    BadByte = 1,
     /// Digits that are no number.
-    BadNumber,
+    BadNumber = 2,
     /// Letters that are no word, or letters mixed with digits.
-    BadWord,
+    BadWord = 3,
     /// A token that may not stand at its place.
-    Misplaced,
+    Misplaced = 4,
     /// One row bracket too many open at once.
-    TooDeep,
+    TooDeep = 5,
     /// A line out of order, or a head that is missing.
-    OutOfOrder,
+    OutOfOrder = 6,
     /// A number out of its range.
-    OutOfRange,
+    OutOfRange = 7,
     /// One row or one claim too many.
-    TooMany,
+    TooMany = 8,
     /// The memory that was handed is too short.
-    MemoryShort,
+    MemoryShort = 9,
     /// The text is too long.
-    TextTooLong,
+    TextTooLong = 10,
 }
 
 /// A place in a text, line and column counted from 1; both are 0 before the text.
@@ -79,11 +79,7 @@ impl Text {
     pub fn number(self) -> u8
         ensures answer { result ≡ text_number self }
     {
-        match self {
-            Text::Table => 1,
-            Text::Sheet => 2,
-            Text::Evidence => 3,
-        }
+        self as u8
     }
 }
 
@@ -92,12 +88,7 @@ impl Layer {
     pub fn number(self) -> u8
         ensures answer { result ≡ layer_number self }
     {
-        match self {
-            Layer::Before => 0,
-            Layer::Words => 1,
-            Layer::Forms => 2,
-            Layer::Limits => 3,
-        }
+        self as u8
     }
 }
 
@@ -106,17 +97,20 @@ impl Reason {
     pub fn number(self) -> u8
         ensures answer { result ≡ reason_number self }
     {
-        match self {
-            Reason::BadByte => 1,
-            Reason::BadNumber => 2,
-            Reason::BadWord => 3,
-            Reason::Misplaced => 4,
-            Reason::TooDeep => 5,
-            Reason::OutOfOrder => 6,
-            Reason::OutOfRange => 7,
-            Reason::TooMany => 8,
-            Reason::MemoryShort => 9,
-            Reason::TextTooLong => 10,
+        self as u8
+    }
+}
+
+impl Fault {
+    /// The fault of a text that is refused before it is looked at.
+    pub fn before(text: Text, reason: Reason) -> Fault
+        ensures answer { refused result ≡ before_text (text_number text) (reason_number reason) }
+    {
+        Fault {
+            reason,
+            text,
+            layer: Layer::Before,
+            place: Place { line: 0, column: 0 },
         }
     }
 }

@@ -2,19 +2,20 @@
 
 ghost use Rattle.std.specs.Prelude.{◌≡◌, ◌+◌, ◌≤◌, length, take, drop};
 ghost use Rattle.words.specs.Numbers.{refused, text_number};
-ghost use Rattle.words.specs.Words.{eaten, here, left, next_token, reading, run_from, start, text_limit, token_from, token_read, word_fault};
+ghost use Rattle.words.specs.Words.{eaten, left, next_token, reading, run_from, start, text_limit, token_from, token_read, word_fault};
 
 use crate::cursor::{TEXT_LIMIT, Words};
 use crate::fault::{Fault, Layer, Place, Reason, Text};
-use crate::run::{Class, front, run_token};
+use crate::run::{blank_length, run_length, run_token};
 use crate::token::{Placed, Token};
 
 impl<'a> Words<'a> {
     /// A view over a text from its first byte on; it looks at no byte past the limit.
+    #[tactic(auto, using(std::proofs::lemmas::List::take_min))]
     pub fn new(bytes: &'a [u8], text: Text) -> Words<'a>
         ensures begins { reading result ≡ start (take text_limit bytes.now) (text_number text) }
     {
-        Words::at_start(&bytes[0..bytes.len().min(TEXT_LIMIT)], text)
+        Words::at_start(&bytes[..TEXT_LIMIT.min(bytes.len())], text)
     }
 
     // A view over a text that is not too long.
@@ -24,19 +25,18 @@ impl<'a> Words<'a> {
     {
         Words {
             rest,
-            line: 1,
-            column: 1,
+            place: Place { line: 1, column: 1 },
             text,
         }
     }
 
     /// The next token, with its place; at the text's end that is its end, again and again.
-    pub fn next(&mut self) -> Result<Placed<'a>, Fault>
+    #[tactic(auto, unfolding(crate::specs::Words::next_token))]
+    pub fn next(&mut self) -> Result<Placed<Token<'a>>, Fault>
         ensures reads { token_read result (reading self.new) ≡ next_token (reading self.old) }
         ensures shorter { left self.new + eaten result ≤ left self.old }
     {
-        let blank = front(self.rest, Class::Space);
-        let _ = self.advance(blank);
+        self.advance(blank_length(self.rest));
         self.token_here()
     }
 
@@ -46,79 +46,56 @@ impl<'a> Words<'a> {
         ensures part { result.now ≡ take n self.old.rest.now }
         ensures rest { self.new.rest.now ≡ drop n self.old.rest.now }
         ensures left { left self.new + n ≡ left self.old }
-        ensures line { self.new.line ≡ self.old.line }
-        ensures column { self.new.column ≡ self.old.column + n }
+        ensures line { self.new.place.line ≡ self.old.place.line }
+        ensures column { self.new.place.column ≡ self.old.place.column + n }
         ensures kind { self.new.text ≡ self.old.text }
     {
         let (part, rest) = self.rest.split_at(n);
         self.rest = rest;
-        self.column += n as u16;
+        self.place.column += n as u16;
         part
     }
 
-    // The place of the next byte.
-    fn place(&self) -> Place
-        ensures answer { result ≡ here (reading self.now) }
-    {
-        Place {
-            line: self.line,
-            column: self.column,
-        }
-    }
-
     // The token that begins at this byte.
-    fn token_here(&mut self) -> Result<Placed<'a>, Fault>
+    fn token_here(&mut self) -> Result<Placed<Token<'a>>, Fault>
         ensures reads { token_read result (reading self.new) ≡ token_from self.old.rest.now (reading self.old) }
         ensures shorter { left self.new + eaten result ≤ left self.old }
     {
-        let place = self.place();
-        let Some(first) = self.rest.first().copied() else {
-            return Ok(Placed {
-                token: Token::TextEnd,
-                place,
-            });
+        let place = self.place;
+        let value = match self.rest.first() {
+            None => Token::TextEnd,
+            Some(b'\n') => {
+                self.advance(1);
+                self.place.line += 1;
+                self.place.column = 1;
+                Token::LineEnd
+            }
+            Some(b'(') => {
+                self.advance(1);
+                Token::Open
+            }
+            Some(b')') => {
+                self.advance(1);
+                Token::Close
+            }
+            Some(_) => return self.run_here(),
         };
-        match first {
-            b'\n' => {
-                let _ = self.advance(1);
-                self.line += 1;
-                self.column = 1;
-                Ok(Placed {
-                    token: Token::LineEnd,
-                    place,
-                })
-            }
-            b'(' => {
-                let _ = self.advance(1);
-                Ok(Placed {
-                    token: Token::Open,
-                    place,
-                })
-            }
-            b')' => {
-                let _ = self.advance(1);
-                Ok(Placed {
-                    token: Token::Close,
-                    place,
-                })
-            }
-            _ => self.run_here(),
-        }
+        Ok(Placed { value, place })
     }
 
     // The run that begins at this byte.
-    fn run_here(&mut self) -> Result<Placed<'a>, Fault>
+    fn run_here(&mut self) -> Result<Placed<Token<'a>>, Fault>
         ensures reads { token_read result (reading self.new) ≡ run_from (reading self.old) }
         ensures shorter { left self.new + eaten result ≤ left self.old }
     {
-        let place = self.place();
-        let n = front(self.rest, Class::Run);
+        let place = self.place;
+        let n = run_length(self.rest);
         if n == 0 {
             return Err(self.fault(Reason::BadByte, place));
         }
         let run = self.advance(n);
         match run_token(run) {
-            Ok(token) => Ok(Placed { token, place }),
+            Ok(value) => Ok(Placed { value, place }),
             Err(reason) => Err(self.fault(reason, place)),
         }
     }

@@ -1,44 +1,44 @@
 //! Runs: longest stretches of letters and digits, and what they are.
 
-ghost use Rattle.std.specs.Prelude.{◌≡◌, ◌-◌, ◌≤◌, length, IfOk};
-ghost use Rattle.words.specs.Words.{number_of, prefix, run_tok, run_token, size, within};
+ghost use Rattle.std.specs.Char.{is_ascii_alphabetic, is_ascii_digit};
+ghost use Rattle.std.specs.List.{list_all, prefix_len};
+ghost use Rattle.std.specs.Prelude.{◌≡◌, ◌-◌, ◌≤◌, ◌==◌, length, IfOk};
+ghost use Rattle.words.specs.Words.{number_of, run_length, run_tok, run_token, size};
 
 use crate::fault::Reason;
 use crate::token::Token;
 
-// The kinds of byte that stretches are made of.
-#[derive(Clone, Copy)]
-pub(crate) enum Class {
-    Space,
-    Letter,
-    Digit,
-    // letters and digits
-    Run,
-}
-
-impl Class {
-    fn holds(self, b: u8) -> bool
-        ensures answer { result ≡ within self b }
-    {
-        match self {
-            Class::Space => b == b' ',
-            Class::Letter => b.is_ascii_alphabetic(),
-            Class::Digit => b.is_ascii_digit(),
-            Class::Run => b.is_ascii_alphabetic() || b.is_ascii_digit(),
-        }
-    }
-}
-
-// How many bytes at the front are of the class.
-pub(crate) fn front(bytes: &[u8], class: Class) -> usize
-    ensures answer { result ≡ prefix class bytes.now }
+// How many spaces stand at the front.
+pub(crate) fn blank_length(bytes: &[u8]) -> usize
+    ensures answer { result ≡ prefix_len (λ b. b == 32) bytes.now }
     ensures bound { result ≤ length bytes.now }
 {
-    let mut n = 0;
-    while n < bytes.len() && class.holds(bytes[n]) {
-        n += 1;
-    }
-    n
+    bytes.iter().take_while(|b| **b == b' ').count()
+}
+
+// How many letters and digits stand at the front.
+pub(crate) fn run_length(bytes: &[u8]) -> usize
+    ensures answer { result ≡ run_length bytes.now }
+    ensures bound { result ≤ length bytes.now }
+{
+    bytes
+        .iter()
+        .take_while(|b| b.is_ascii_alphanumeric())
+        .count()
+}
+
+// Whether all bytes are digits.
+fn all_digits(run: &[u8]) -> bool
+    ensures answer { result ≡ list_all is_ascii_digit run.now }
+{
+    run.iter().all(|b| b.is_ascii_digit())
+}
+
+// Whether all bytes are letters.
+fn all_letters(run: &[u8]) -> bool
+    ensures answer { result ≡ list_all is_ascii_alphabetic run.now }
+{
+    run.iter().all(|b| b.is_ascii_alphabetic())
 }
 
 // The value of a byte as a digit.
@@ -49,6 +49,7 @@ fn digit(b: u8) -> u16
 }
 
 // The number that a run of digits writes, if it is one.
+// Not `parse`, which takes a sign and needless zeros, and wants a `str`.
 fn number(run: &[u8]) -> Option<u16>
     ensures answer { result ≡ number_of run.now }
 {
@@ -66,13 +67,11 @@ pub(crate) fn run_token<'a>(run: &'a [u8]) -> Result<Token<'a>, Reason>
     ensures answer { run_tok result ≡ run_token run.now }
     ensures bound { IfOk result (λ t. size t ≤ 1) }
 {
-    if front(run, Class::Digit) == run.len() {
-        return match number(run) {
-            Some(n) => Ok(Token::Number(n)),
-            None => Err(Reason::BadNumber),
-        };
+    if all_digits(run) {
+        let n = number(run).ok_or(Reason::BadNumber)?;
+        return Ok(Token::Number(n));
     }
-    if front(run, Class::Letter) == run.len() && run.len() <= 8 {
+    if run.len() <= 8 && all_letters(run) {
         return Ok(Token::Word(run));
     }
     Err(Reason::BadWord)

@@ -19,11 +19,11 @@ pub enum Token<'a> {
     TextEnd,
 }
 
-/// A token and the place of its first byte.
+/// A part of a text and the place of its first byte.
 #[derive(Clone, Copy)]
-pub struct Placed<'a> {
+pub struct Placed<T> {
     /// What stands there.
-    pub token: Token<'a>,
+    pub value: T,
     /// Where it begins.
     pub place: Place,
 }
