@@ -51,8 +51,3 @@ pub record Accepted (dials : List ℕ) (c : ℕ) (rules : List Rule) (flags : Li
 abbrev pub Made : List ℕ → ℕ → List Rule → List DialFlag → Result DialGraph Refusal → Type 0
 Made dials c rules flags (Ok g) = Accepted dials c rules flags (meaning_of g)
 Made dials c rules flags (Err e) = (refusal_number e ≡ 16) × (Fits dials c rules flags → ⊥)
-
--- the sizes of dials of which a graph can be made; a refusal has number 16 and some limit is then broken
-abbrev pub Fitting : List ℕ → ℕ → List Rule → List DialFlag → Result Sizes Refusal → Type 0
-Fitting dials c rules flags (Ok s) = (s ≡ sizes_of dials) × Fits dials c rules flags
-Fitting dials c rules flags (Err e) = (refusal_number e ≡ 16) × (Fits dials c rules flags → ⊥)

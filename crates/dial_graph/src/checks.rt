@@ -3,11 +3,10 @@
 ghost use Rattle.std.specs.Prelude.{Decides};
 ghost use Rattle.std.specs.List.{AllByRecursion};
 ghost use Rattle.dial_graph.specs.Dials.{FlagFits, Fits, RuleFits};
-ghost use Rattle.dial_graph.specs.Made.{Fitting};
 
 use crate::rules::{DialFlag, RULE_LIMIT, Rule, STEP_LIMIT};
 use crate::sizes::{DIAL_LIMIT, Sizes};
-use graph::{COMMAND_LIMIT, FLAG_LIMIT, MODE_LIMIT, Refusal};
+use graph::{COMMAND_LIMIT, FLAG_LIMIT, MODE_LIMIT};
 
 // Whether the rule names a command and dials that are there, and its step is within its limits.
 fn rule_fits(count: usize, commands: u8, rule: &Rule) -> bool
@@ -35,7 +34,7 @@ fn flags_fit(count: usize, flags: &[DialFlag]) -> bool
 }
 
 // Whether every limit is kept.
-fn all_fit(dials: &[u8], commands: u8, rules: &[Rule], flags: &[DialFlag]) -> bool
+pub(crate) fn all_fit(dials: &[u8], commands: u8, rules: &[Rule], flags: &[DialFlag]) -> bool
     ensures exactly { Decides result (Fits dials.now commands rules.now flags.now) }
 {
     let sizes = Sizes::new(dials);
@@ -49,20 +48,4 @@ fn all_fit(dials: &[u8], commands: u8, rules: &[Rule], flags: &[DialFlag]) -> bo
         && flags.len() <= FLAG_LIMIT as usize
         && rules_fit(dials.len(), commands, rules)
         && flags_fit(dials.len(), flags)
-}
-
-// The sizes of the dials, where every limit is kept.
-pub(crate) fn fitting_sizes(
-    dials: &[u8],
-    commands: u8,
-    rules: &[Rule],
-    flags: &[DialFlag],
-) -> Result<Sizes, Refusal>
-    ensures made { Fitting dials.now commands rules.now flags.now result }
-{
-    if all_fit(dials, commands, rules, flags) {
-        Ok(Sizes::new(dials))
-    } else {
-        Err(Refusal::LimitBroken)
-    }
 }

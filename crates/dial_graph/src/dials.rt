@@ -5,7 +5,7 @@ ghost use Rattle.std.specs.List.{list_any};
 ghost use Rattle.dial_graph.specs.Dials.{CountsFit};
 ghost use Rattle.dial_graph.specs.Lists.{test_at};
 
-use crate::checks::fitting_sizes;
+use crate::checks::all_fit;
 use crate::rules::{Dial, DialFlag, Rule};
 use crate::sizes::Sizes;
 use graph::{Command, Flag, Graph, Mode, Refusal};
@@ -36,9 +36,11 @@ impl<'a> DialGraph<'a> {
     ) -> Result<DialGraph<'a>, Refusal>
         ensures made { Made dials.now commands rules.now flags.now result }
     {
-        let sizes = fitting_sizes(dials, commands, rules, flags)?;
+        if !all_fit(dials, commands, rules, flags) {
+            return Err(Refusal::LimitBroken);
+        }
         Ok(DialGraph {
-            sizes,
+            sizes: Sizes::new(dials),
             commands,
             rules,
             flags,

@@ -26,6 +26,7 @@ pub struct RefusalLine<'a> {
 }
 
 /// A call that is refused, and by which number, as `(label refused 14)`.
+// Not a `NumberLine` of another word: then each caller would write the word `refused`.
 #[derive(Clone, Copy)]
 pub struct RefusedLine<'a> {
     /// The word for the call.

@@ -20,6 +20,7 @@ impl<'a> ListGraph<'a> {
 
     /// The graph of `modes` modes, `commands` commands and `flags` flags that the bytes mean. Bytes that are no whole table are
     /// refused first, and then counts outside of their limits.
+    // Three counts, not a struct of them: `new(&bytes, 3, 2, 2)` reads as well, and a caller from C has them apart.
     pub fn new(
         bytes: &'a [u8],
         modes: u8,
