@@ -28,6 +28,7 @@ pub(crate) fn put_rows(sheet: &mut Sheet, bytes: &[u8]) -> Result<(), Refused>
 }
 
 // The row of a letter and two numbers, by the letters of a claim sheet.
+// Not a `TryFrom`: neither the trait nor `Row` is of this crate.
 fn row_of(letter: u8, x: u8, y: u8) -> Option<Row>
     ensures answer { result ≡ row_of letter x y }
 {

@@ -48,6 +48,7 @@ impl Sheet {
     }
 
     /// Puts a claim at the end, and answers whether there was room for it. Where there was none the sheet stays as it is.
+    // A `bool`, as of a set's `insert`: an error could say no more than that there was no room.
     pub fn push_claim(&mut self, claim: Claim) -> bool
         ensures answer { result ≡ claim_fits (sheet_claims self.old) }
         ensures claims { sheet_claims self.new ≡ claims_with claim (sheet_claims self.old) }

@@ -6,6 +6,7 @@ use graph::{Command, Flag, Mode};
 pub type RowNumber = u8;
 
 /// One row of a sheet.
+// Parts are numbers and no boxes, by a rule of the project: rows are numbered, and a label table has a block for each number.
 #[derive(Clone, Copy, PartialEq, Eq, Debug)]
 pub enum Row {
     /// A formula that is never true.
