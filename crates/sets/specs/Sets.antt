@@ -1,5 +1,5 @@
 -- Sets of modes in bytes: which bit says that a mode is in a set, and what adding to a set changes.
-use Rattle.std.specs.Prelude.{◌≡◌, ℕ, ◌+◌, ◌/◌, ◌%◌, ◌^◌, ◌<◌, ◌≤◌, Bool, true, ◌||◌, List, length, ◌==◌, bit_or, slice_index, slice_set}
+use Rattle.std.specs.Prelude.{◌≡◌, ℕ, ◌+◌, ◌/◌, ◌%◌, ◌^◌, ◌<◌, ◌≤◌, Bool, true, ◌||◌, List, ◌==◌, bit_or, slice_index, slice_set}
 use Rattle.graph.specs.Meaning.{mode_limit}
 
 -- the bytes of a set: a bit for each of 64 modes
@@ -21,10 +21,6 @@ member bytes at v = bit bytes (at + v / 8) (v % 8)
 -- the bytes with mode v put into the set that begins at byte `at`
 abbrev pub with_member : List ℕ → ℕ → ℕ → List ℕ
 with_member bytes at v = with_bit bytes (at + v / 8) (v % 8)
-
--- the set that begins at byte `at` lies within the bytes
-abbrev pub Whole : List ℕ → ℕ → Type 0
-Whole bytes at = at + set_bytes ≤ length bytes
 
 -- The set at `to` has gained the modes of the set at `from`, and no byte outside of it has changed.
 pub record Joined (to from : ℕ) (old new : List ℕ) : Type 0 where
