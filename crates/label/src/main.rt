@@ -49,9 +49,8 @@ fn read(rt: HostRuntime, file: &str) -> anyhow::Result<Option<Vec<u8>>> {
 
 // Reads the claims of a kit whose table is read, and labels their rows.
 fn label_kit(rt: HostRuntime, memory: &[u8], counts: Counts) -> anyhow::Result<ExitCode> {
-    let graph = ListGraph::new(memory, counts.modes, counts.commands, counts.flags).map_err(
-        |_| anyhow!("label: the table's counts make no graph"),
-    )?;
+    let made = ListGraph::new(memory, counts.modes, counts.commands, counts.flags);
+    let graph = made.map_err(|_| anyhow!("label: the table's counts make no graph"))?;
     let Some(text) = read(rt, CLAIMS_FILE)? else {
         return Ok(ExitCode::FAILURE);
     };

@@ -26,12 +26,8 @@ fn main(rt: HostRuntime) -> anyhow::Result<ExitCode> {
     let mut memory = vec![in rt.alloc(); 0u8; TABLE_BYTES]?;
     match read_table(&text, &mut memory) {
         Ok(counts) => {
-            let graph = ListGraph::new(
-                &memory,
-                counts.modes,
-                counts.commands,
-                counts.flags,
-            ).map_err(|_| anyhow!("survey: the table's counts make no graph"))?;
+            let made = ListGraph::new(&memory, counts.modes, counts.commands, counts.flags);
+            let graph = made.map_err(|_| anyhow!("survey: the table's counts make no graph"))?;
             print_survey(&rt, &graph)?;
             survey_claims(rt)
         }
