@@ -3,14 +3,11 @@
 ghost use Rattle.std.specs.Prelude.{◌≡◌, ◌+◌, ◌*◌};
 ghost use Rattle.label_table.specs.Layout.{mode_bit, pair_bit};
 
-use graph::{MODE_LIMIT, Mode};
+use graph::Mode;
 use logic::{ROW_LIMIT, RowNumber};
-use sets::{SET_BYTES, SetStart, contains};
+use sets::{BLOCK_BYTES, SetStart, block_set, contains};
 
-// The block of one row: a set of modes for each of 64 modes.
-const BLOCK_BYTES: usize = MODE_LIMIT as usize * SET_BYTES;
-
-/// The bytes of a label table, 24,576: 48 rows of 64 sets of 8 bytes.
+/// The bytes of a label table, 24,576: 48 rows of a block each.
 pub const TABLE_BYTES: usize = ROW_LIMIT * BLOCK_BYTES;
 
 /// Where the set begins of the modes at which formula row r is true.
@@ -24,7 +21,7 @@ pub fn formula_set(r: RowNumber) -> SetStart
 pub fn program_set(r: RowNumber, u: Mode) -> SetStart
     ensures answer { result ≡ 512 * r + 8 * u }
 {
-    BLOCK_BYTES as u32 * r as u32 + SET_BYTES as u32 * u as u32
+    block_set(r, u)
 }
 
 /// Whether the bit of mode u of formula row r is set; past the end of the bytes no bit is.

@@ -3,17 +3,14 @@
 ghost use Rattle.std.specs.Prelude.{◌≡◌, ◌+◌, ◌*◌};
 ghost use Rattle.list_graph.specs.Layout.{flag_bit, arc_bit, marked, joined};
 
-use graph::{COMMAND_LIMIT, Command, FLAG_LIMIT, Flag, MODE_LIMIT, Mode};
-use sets::{SET_BYTES, SetStart, contains, insert};
+use graph::{COMMAND_LIMIT, Command, FLAG_LIMIT, Flag, Mode};
+use sets::{BLOCK_BYTES, SET_BYTES, SetStart, block_set, contains, insert};
 
 // Where the arcs begin, after a set of modes for each of 16 flags.
 const ARCS_START: usize = FLAG_LIMIT as usize * SET_BYTES;
 
-// The arcs of one command: a set of modes for each of 64 modes.
-const COMMAND_BYTES: usize = MODE_LIMIT as usize * SET_BYTES;
-
 /// The bytes of a table, 8,320: 16 flags of 8 bytes, and then 16 commands of 64 modes of 8 bytes.
-pub const TABLE_BYTES: usize = ARCS_START + COMMAND_LIMIT as usize * COMMAND_BYTES;
+pub const TABLE_BYTES: usize = ARCS_START + COMMAND_LIMIT as usize * BLOCK_BYTES;
 
 /// Whether the bit of flag p at mode u is set; past the end of the bytes no bit is.
 pub fn flag_stands(bytes: &[u8], p: Flag, u: Mode) -> bool
@@ -54,5 +51,5 @@ fn flag_set(p: Flag) -> SetStart
 fn target_set(a: Command, u: Mode) -> SetStart
     ensures answer { result ≡ 128 + 512 * a + 8 * u }
 {
-    ARCS_START as u32 + COMMAND_BYTES as u32 * a as u32 + SET_BYTES as u32 * u as u32
+    ARCS_START as u32 + block_set(a, u)
 }

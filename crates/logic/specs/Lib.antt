@@ -4,3 +4,4 @@ pub mod Rows
 pub mod Sheets
 pub mod Trees
 pub mod Truth
+pub mod Bounded

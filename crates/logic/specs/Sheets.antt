@@ -14,11 +14,11 @@ claim_limit = 16
 
 -- the rows of a sheet, in order
 abbrev pub sheet_rows : Sheet → List Row
-sheet_rows s = vec_items s.rows
+sheet_rows s = vec_items s.rows.items
 
 -- the claims of a sheet, in order
 abbrev pub sheet_claims : Sheet → List Claim
-sheet_claims s = vec_items s.claims
+sheet_claims s = vec_items s.claims.items
 
 -- no rows and no claims
 abbrev pub Empty : Sheet → Type 0

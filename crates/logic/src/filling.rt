@@ -3,8 +3,9 @@
 ghost use Rattle.std.specs.Prelude.{◌≡◌, ◌≤◌, length, IfOk};
 ghost use Rattle.logic.specs.Sheets.{Empty, claim_fits, claim_limit, claims_with, next_number, row_limit, rows_with, sheet_claims, sheet_rows};
 
+use crate::bounded::Bounded;
 use crate::row::{Claim, Row, RowNumber};
-use crate::sheet::{CLAIM_LIMIT, ROW_LIMIT, Sheet};
+use crate::sheet::Sheet;
 use std::alloc::{AllocError, Global};
 
 impl Sheet {
@@ -12,8 +13,8 @@ impl Sheet {
     pub fn new(heap: Global) -> Result<Sheet, AllocError>
         ensures made { IfOk result Empty }
     {
-        let rows = Vec::with_capacity(heap, ROW_LIMIT)?;
-        let claims = Vec::with_capacity(heap, CLAIM_LIMIT)?;
+        let rows = Bounded::new(heap)?;
+        let claims = Bounded::new(heap)?;
         Ok(Sheet { rows, claims })
     }
 
@@ -39,11 +40,7 @@ impl Sheet {
         ensures rows { sheet_rows self.new ≡ rows_with row (sheet_rows self.old) }
         ensures claims { sheet_claims self.new ≡ sheet_claims self.old }
     {
-        let number = self.rows.len();
-        if number >= ROW_LIMIT {
-            return None;
-        }
-        self.rows.push_reserved(row);
+        let number = self.rows.push(row)?;
         Some(number as u8)
     }
 
@@ -54,11 +51,7 @@ impl Sheet {
         ensures claims { sheet_claims self.new ≡ claims_with claim (sheet_claims self.old) }
         ensures rows { sheet_rows self.new ≡ sheet_rows self.old }
     {
-        if self.claims.len() >= CLAIM_LIMIT {
-            return false;
-        }
-        self.claims.push_reserved(claim);
-        true
+        self.claims.push(claim).is_some()
     }
 
     /// Takes all rows and claims away, and keeps the memory.

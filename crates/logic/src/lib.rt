@@ -1,6 +1,7 @@
 //! Claims in dynamic logic with converse: the rows of a claim sheet, and what they mean.
 #![tactic(auto)]
 
+mod bounded;
 mod decided;
 mod filling;
 mod row;

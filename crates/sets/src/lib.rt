@@ -1,8 +1,11 @@
 //! Sets of modes in bytes. A set has eight bytes, with a bit for each of 64 modes; it is named by its first byte.
 #![tactic(auto)]
 
+mod block;
 mod member;
 
+/// Blocks of sets, one for each mode.
+pub use block::{BLOCK_BYTES, block_set};
 /// Whether a mode is in a set, and putting one in.
 pub use member::{contains, insert};
 
