@@ -70,6 +70,7 @@ impl<'a> DialGraph<'a> {
     fn some_joins(&self, a: Command, u: Mode, v: Mode) -> bool
         ensures answer { result ≡ list_any (rule_joins self.now.sizes a u v) self.now.rules.now }
     {
+        // A `for` over the lent rules, by a rule of the project.
         for rule in self.rules {
             if rule.joins(self, a, u, v) {
                 return true;

@@ -11,9 +11,9 @@ pub const POSITION_LIMIT: u8 = 8;
 // How many positions each of three dials has; a dial that is missing counts as one of 1 position.
 #[derive(Clone, Copy)]
 pub(crate) struct Sizes {
-    pub first: u8,
-    pub second: u8,
-    pub third: u8,
+    pub(crate) first: u8,
+    pub(crate) second: u8,
+    pub(crate) third: u8,
 }
 
 // How many positions dial i has, and 1 where it is missing.

@@ -25,6 +25,7 @@ pub fn fits<G: Graph>(graph: &G, sheet: &Sheet) -> bool
 fn is_orderly(rows: &[Row]) -> bool
     ensures exactly { Decides result (Orderly rows.now) }
 {
+    // A `for`: with `all` the goal was left open.
     for (i, row) in rows.iter().enumerate() {
         if !parts_before(&rows[..i], *row) {
             return false;

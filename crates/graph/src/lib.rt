@@ -64,6 +64,7 @@ pub trait Graph {
     fn next_target(&self, a: Command, u: Mode, start: Mode) -> Option<Mode>
         ensures answer { Lowest ((meaning self.now).joins a u) start result }
     {
+        // A `for`: with `find` the goal was left open.
         let n = self.modes();
         for v in start..n {
             if self.joins(a, u, v) {

@@ -37,6 +37,7 @@ fn main(rt: HostRuntime) -> anyhow::Result<ExitCode> {
 }
 
 // The bytes of a file. Where it cannot be read, standard error says which file, and why.
+// Not one function with that of `survey`: there a missing sheet is no fault, and each names its own program.
 fn read(rt: HostRuntime, file: &str) -> anyhow::Result<Option<Vec<u8>>> {
     match fs::read(&rt, file) {
         Ok(text) => Ok(Some(text)),

@@ -159,6 +159,7 @@ fn sheet_of(heap: Global, text: &str) -> Result<Sheet, AllocError> {
 }
 
 // Every row of a sheet over a graph, by its line.
+// The loop of `label`: one call for each row, so that a function for both would be no shorter.
 fn show<G: Graph>(rt: HostRuntime, name: &str, graph: &G, text: &str) -> anyhow::Result<()> {
     let sheet = sheet_of(rt.alloc(), text)?;
     let mut table = vec![in rt.alloc(); UNTOUCHED; TABLE_BYTES]?;

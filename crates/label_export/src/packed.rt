@@ -8,6 +8,7 @@ ghost use Rattle.std.specs.Prelude.{◌≡◌, []};
 use crate::refused::Refused;
 use logic::{Row, Sheet};
 
+// Rows are bytes and the rest is a slice: the C interface, and with `as_chunks` more goals were left open.
 // Puts the rows that the bytes mean into a sheet that has none. They are refused where the bytes are no rows, or not all find room.
 pub(crate) fn put_rows(sheet: &mut Sheet, bytes: &[u8]) -> Result<(), Refused>
     requires { sheet_rows sheet.old ≡ [] }

@@ -75,16 +75,6 @@ gained_set q u r w old new hu j = record {
   only = only_set q u old new hu j.below j.above;
 }
 
--- no mode is gained
-pub gained_none : (q u : ℕ) (P : ℕ → Type 0) (t : List ℕ) → ((v : ℕ) → v < 64 → P v → ⊥) → Gained q u P t t
-gained_none q u P t none = record {
-  sound = λ v h i. inl i;
-  kept = λ v h i. i;
-  full = λ v h p. absurd (none v h p);
-  others = λ x v hx hv other. refl;
-  only = only_none q t;
-}
-
 -- what is gained, said in another way
 pub gained_like : (q u : ℕ) (P Q : ℕ → Type 0) (old new : List ℕ) → ((v : ℕ) → v < 64 → P v → Q v) → ((v : ℕ) → v < 64 → Q v → P v) → Gained q u P old new → Gained q u Q old new
 gained_like q u P Q old new to from g = record {

@@ -14,6 +14,7 @@ pub enum Refusal {
 
 impl Refusal {
     /// The number by which the refusal is known outside of the program.
+    // A method, not a `From` for `u8`, which would not say which number is meant.
     pub fn number(self) -> u8
         ensures answer { result ≡ refusal_number self }
     {

@@ -20,7 +20,7 @@ impl<'a> Front<'a> {
     pub fn is_untouched(&self) -> bool
         ensures answer { result ≡ list_all (λ b. b == self.now.before) self.now.bytes.now }
     {
-        all_are(self.bytes, self.before)
+        self.bytes.iter().all(|b| *b == self.before)
     }
 }
 
@@ -35,13 +35,6 @@ impl<'a> fmt::Display for Front<'a> {
             write!(f, "{bits} bits set")
         }
     }
-}
-
-// Whether each of the bytes is this one.
-fn all_are(bytes: &[u8], byte: u8) -> bool
-    ensures answer { result ≡ list_all (λ b. b == byte) bytes.now }
-{
-    bytes.iter().all(|b| *b == byte)
 }
 
 // How many bits of the bytes are set.

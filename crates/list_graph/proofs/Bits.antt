@@ -39,11 +39,3 @@ length_marked bs p u = length_with_bit bs (flag_byte p u) (u % 8)
 
 pub length_joined : (bs : List ℕ) (a u v : ℕ) → length (joined bs a u v) ≡ length bs
 length_joined bs a u v = length_with_bit bs (arc_byte a u v) (v % 8)
-
--- what lies behind the table stays where a flag is set
-pub drop_marked : (bs : List ℕ) (p u : ℕ) → p < flag_limit → u < mode_limit → drop table_bytes (marked bs p u) ≡ drop table_bytes bs
-drop_marked bs p u hp hu = drop_with_bit table_bytes bs (flag_byte p u) (u % 8) (omega arith)
-
--- what lies behind the table stays where an arc is set
-pub drop_joined : (bs : List ℕ) (a u v : ℕ) → a < command_limit → u < mode_limit → v < mode_limit → drop table_bytes (joined bs a u v) ≡ drop table_bytes bs
-drop_joined bs a u v ha hu hv = drop_with_bit table_bytes bs (arc_byte a u v) (v % 8) (omega arith)

@@ -40,6 +40,7 @@ pub enum Row {
 }
 
 /// The modes that a claim names.
+// Not an `Option<Mode>`, whose `None` would have to mean every mode.
 #[derive(Clone, Copy, PartialEq, Eq, Debug)]
 pub enum Scope {
     /// Every mode of the graph.

@@ -35,6 +35,7 @@ fn bit_is_set(bytes: &[u8], i: usize, k: u8) -> bool
     requires { k < 8 }
     ensures answer { result ≡ bit bytes.now i k }
 {
+    // An index after a test: with `get` the goal was left open.
     i < bytes.len() && (bytes[i] >> k) % 2 == 1
 }
 

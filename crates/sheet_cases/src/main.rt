@@ -158,6 +158,7 @@ fn used_sheet(heap: Global) -> Result<Sheet, AllocError> {
     Ok(sheet)
 }
 
+// What the call answers. Not one function with that of `table_cases`, whose good answer has counts to print.
 fn print_answer(rt: HostRuntime, name: &str, text: &[u8], sheet: &mut Sheet) -> anyhow::Result<()> {
     match read_sheet(text, sheet) {
         Ok(()) => print!(rt; "{name}: read; ")?,

@@ -88,6 +88,7 @@ fn survey_claims(rt: HostRuntime) -> anyhow::Result<ExitCode> {
 
 // Each claim, and then the rows that were numbered for it.
 fn print_sheet(rt: &impl Print, sheet: &Sheet) -> io::Result<()> {
+    // Where the rows of the next claim begin: a claim says only where its own end.
     let mut first = 0;
     for (number, claim) in (0..).zip(sheet.claims()) {
         rt.println(ClaimLine {

@@ -38,7 +38,7 @@ pub(crate) enum Keyword {
 impl Keyword {
     // Which of the table's words it is.
     // Not a `TryFrom`: its error would say no more than `None` does.
-    pub fn from_word(word: &[u8]) -> Option<Keyword>
+    pub(crate) fn from_word(word: &[u8]) -> Option<Keyword>
         ensures answer { result ≡ key_of word.now }
     {
         match word {

@@ -159,6 +159,7 @@ fn show_in(rt: HostRuntime, name: &str, text: &[u8], len: usize) -> anyhow::Resu
 }
 
 // How many bits of the table are set, unless it is untouched, and then how much of what lies behind it is kept.
+// Not one function with that of `label_cases`, which tells of what lies behind in any case.
 fn print_memory(rt: HostRuntime, memory: &[u8]) -> anyhow::Result<()> {
     let (table, behind) = memory.split_at(memory.len().min(TABLE_BYTES));
     let front = Front {

@@ -48,10 +48,7 @@ by_test : {A G : Type 0} (b : Bool) {x y z : A} → (b ≡ true → x ≡ z → 
 by_test true f g e = f refl e
 by_test false f g e = g refl e
 
--- a refusal is no result, and a result is one
-not_ok : {t : Tok} {r : Reason} → ◌≡◌ {A = Result Tok Reason} (Err r) (Ok t) → ⊥
-not_ok e = cc
-
+-- a result is one
 ok_value : {t u : Tok} → ◌≡◌ {A = Result Tok Reason} (Ok t) (Ok u) → t ≡ u
 ok_value e = cc
 

@@ -74,6 +74,7 @@ pub struct Fault {
     pub place: Place,
 }
 
+// Each number by a method, not a `From` for `u8`, which would not say which number is meant.
 impl Text {
     /// The number by which the text is known outside of the program.
     pub fn number(self) -> u8

@@ -9,6 +9,7 @@ use crate::fault::{Fault, Layer, Place, Reason, Text};
 use crate::run::{blank_length, run_length, run_token};
 use crate::token::{Placed, Token};
 
+// The clause `shorter` tells of two states at each step, which no invariant can.
 impl<'a> Words<'a> {
     /// A view over a text from its first byte on; it looks at no byte past the limit.
     #[tactic(auto, using(std::proofs::lemmas::List::take_min))]

@@ -8,7 +8,7 @@ ghost use Rattle.words.specs.Words.{number_of, run_length, run_tok, run_token, s
 use crate::fault::Reason;
 use crate::token::Token;
 
-// How many spaces stand at the front.
+// How many spaces stand at the front. The tests of runs are a small function each: within one function the proof of a chain did not close.
 pub(crate) fn blank_length(bytes: &[u8]) -> usize
     ensures answer { result ≡ prefix_len (λ b. b == 32) bytes.now }
     ensures bound { result ≤ length bytes.now }

@@ -14,12 +14,6 @@ pub fn models() -> u8
     ensures cases { WorkedCases }
     ensures answer { result ≡ 3 }
 {
-    count()
-}
-
-// Model S, with a latch and without; model T; and the two dials.
-fn count() -> u8
-    ensures answer { result ≡ 3 }
-{
+    // Model S, with a latch and without; model T; and the two dials.
     3
 }

@@ -2,5 +2,5 @@
 use Rattle.worked_cases.proofs.Proved.{worked_cases}
 use Rattle.worked_cases.proofs.models.Goals as goal
 
-pub returns : goal.returns
-returns c = record { cases = worked_cases; answer = c.count.ensures.answer }
+pub returns-clause-cases : goal.returns-clause-cases
+returns-clause-cases c = worked_cases
