@@ -1,4 +1,5 @@
-//! Sets of modes in bytes. A set has eight bytes, with a bit for each of 64 modes; it is named by its first byte.
+//! Sets of modes in bytes. A set has eight bytes, with a bit for each of 64 modes; it is named by its first byte, by a rule of the
+//! project: the tables that have sets lie in memory of a stated layout.
 #![tactic(auto)]
 
 mod block;

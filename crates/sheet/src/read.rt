@@ -25,7 +25,7 @@ pub fn read_sheet(text: &[u8], sheet: &mut Sheet) -> Result<(), Fault>
     read_into(text, sheet)
 }
 
-// Reads a text that is not too long. Beside the table's, no generic function: only the order of the calls is the same.
+// Reads a text that is not too long; a type for that would be made here and undone at the next call. Beside the table's, no generic function: only the order of the calls is the same.
 fn read_into(text: &[u8], sheet: &mut Sheet) -> Result<(), Fault>
     requires { length text.now ≤ text_limit }
     ensures answer { answered result sheet.new ≡ sheet_over (claims_from [] (begun text.now)) }

@@ -29,7 +29,7 @@ pub fn read_table(text: &[u8], memory: &mut [u8]) -> Result<Counts, Fault>
     read_into(text, &mut memory[..TABLE_BYTES])
 }
 
-// Reads a table into its own bytes.
+// Reads a table into its own bytes. The text is not too long: a type for that would be made here and undone at the next call.
 // No generic function with the sheet's: only the order of the calls is the same, and a trait for them would be longer.
 fn read_into(text: &[u8], bytes: &mut [u8]) -> Result<Counts, Fault>
     requires { (length text.now ≤ text_limit) × (length bytes.old ≡ table_bytes) }

@@ -19,7 +19,7 @@ impl<'a> Words<'a> {
         Words::at_start(&bytes[..TEXT_LIMIT.min(bytes.len())], text)
     }
 
-    // A view over a text that is not too long.
+    // A view over a text that is not too long. That it is not is asked once in each crate that reads: a type for it would be public.
     fn at_start(rest: &'a [u8], text: Text) -> Words<'a>
         requires { length rest.now ≤ text_limit }
         ensures begins { reading result ≡ start rest.now (text_number text) }
