@@ -35,7 +35,7 @@ impl Sizes {
         }
     }
 
-    // Whether every dial has 1 to 8 positions.
+    // Whether every dial has 1 to 8 positions. Three fields, not an array: `sizes.second` says more than `sizes[1]`.
     pub(crate) fn fit(self) -> bool
         ensures exactly { Decides result (SizesFit self) }
     {

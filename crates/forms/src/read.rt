@@ -98,6 +98,7 @@ impl<'a> Forms<'a> {
         ensures shorter { left self.new.words ≤ left self.old.words }
     {
         let n = self.number()?;
+        // A cast after the test: with `try_from` a goal was left open.
         if (u16::from(range.start)..u16::from(range.end)).contains(&n.value) {
             Ok(n.value as u8)
         } else {

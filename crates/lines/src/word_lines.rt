@@ -31,7 +31,7 @@ pub struct RefusalLine<'a> {
 pub struct RefusedLine<'a> {
     /// The word for the call.
     pub word: &'a str,
-    /// The number of the refusal.
+    /// The number of the refusal, of whichever call.
     pub number: u8,
 }
 
