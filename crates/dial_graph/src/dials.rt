@@ -63,6 +63,7 @@ impl<'a> DialGraph<'a> {
     fn stands_at(&self, p: Flag, u: Mode) -> bool
         ensures answer { result ≡ test_at (flag_shows self.now.sizes u) self.now.flags.now p }
     {
+        // An index after a test: with `get` the goal was left open.
         (p as usize) < self.flags.len() && self.flags[p as usize].shows(self, u)
     }
 

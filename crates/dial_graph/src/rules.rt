@@ -71,6 +71,7 @@ impl Rule {
     pub(crate) fn joins(&self, graph: &DialGraph, a: Command, u: Mode, v: Mode) -> bool
         ensures answer { result ≡ rule_joins graph.now.sizes a u v self.now }
     {
+        // A match with a range in its guard, by a rule of the project; so it is with flags.
         match graph.position(self.guard, u) {
             x if self.command == a && self.low <= x && x <= self.high => {
                 self.dial_follows(graph, 0, u, v)

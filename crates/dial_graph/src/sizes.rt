@@ -39,12 +39,10 @@ impl Sizes {
     pub(crate) fn fit(self) -> bool
         ensures exactly { Decides result (SizesFit self) }
     {
-        1 <= self.first
-            && self.first <= POSITION_LIMIT
-            && 1 <= self.second
-            && self.second <= POSITION_LIMIT
-            && 1 <= self.third
-            && self.third <= POSITION_LIMIT
+        let positions = 1..=POSITION_LIMIT;
+        positions.contains(&self.first)
+            && positions.contains(&self.second)
+            && positions.contains(&self.third)
     }
 
     // How many settings the dials have.

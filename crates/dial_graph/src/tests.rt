@@ -29,10 +29,7 @@ const UPPER: DialFlag = DialFlag {
 fn is_refused(dials: &[u8], commands: u8, rule: Rule, flag: DialFlag) -> bool
     ensures exactly { Decides result (Fits dials.now commands (rule ∷ []) (flag ∷ []) → ⊥) }
 {
-    match DialGraph::new(dials, commands, &[rule], &[flag]) {
-        Ok(_) => false,
-        Err(_) => true,
-    }
+    DialGraph::new(dials, commands, &[rule], &[flag]).is_err()
 }
 
 #[test]

@@ -53,6 +53,7 @@ impl<'a> Forms<'a> {
         ensures shorter { left self.new.words ≤ left self.old.words }
     {
         let t = self.words.next()?;
+        // A match: with `ok_or` goals were left open.
         match pick(t) {
             Some(value) => Ok(value),
             None => Err(self.misplaced(t.place)),

@@ -44,7 +44,7 @@ pub extern "C" fn label_rows_over_table(
     }
 }
 
-// Labels the rows that the bytes mean over the graph that the table and the counts mean.
+// Labels the rows that the bytes mean over the graph that the table and the counts mean. It takes what the function for C is handed.
 fn label_over_table(
     heap: Global,
     table: &[u8],

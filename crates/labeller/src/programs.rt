@@ -25,7 +25,7 @@ fn add_targets<G: Graph>(graph: &G, table: &mut Table, set: RowSet, a: Command)
 }
 
 // Adds the modes to which row s leads from where row r leads: a join of sets for each mode in between.
-// That r and s stand before the row stays a clause: a type for it would be made in one arm of `add_steps` and undone here.
+// That r and s stand before the row stays a clause, here and below: a type for it would be made at the call and undone at once.
 fn add_through<G: Graph>(graph: &G, table: &mut Table, set: RowSet, r: RowNumber, s: RowNumber)
     requires parts { (r < set.row) × (s < set.row) }
     ensures gained { Gained set.row set.mode (Through (G.meaning graph.now).modes table.old r s set.mode) table.old table.new }

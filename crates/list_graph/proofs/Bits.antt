@@ -1,8 +1,8 @@
 -- What setting a flag or an arc of a table changes, and what it leaves.
-use Rattle.std.proofs.Common.{◌≡◌, ℕ, ◌%◌, ◌<◌, ◌≤◌, Bool, ◌&&◌, ◌||◌, eqb, List, length, drop, ap, ◌∙◌, arith}
+use Rattle.std.proofs.Common.{◌≡◌, ℕ, ◌%◌, ◌<◌, ◌≤◌, Bool, ◌&&◌, ◌||◌, eqb, List, length, ap, ◌∙◌, arith}
 use Rattle.std.proofs.lemmas.Bool.Decides.{nat_tests}
 use Rattle.graph.specs.Meaning.{mode_limit, command_limit, flag_limit}
-use Rattle.sets.proofs.Bits.{bit_with_bit, bit_other, length_with_bit, drop_with_bit}
+use Rattle.sets.proofs.Bits.{bit_with_bit, bit_other, length_with_bit}
 use Rattle.list_graph.specs.Layout.{table_bytes, flag_byte, arc_byte, flag_bit, arc_bit, marked, joined}
 
 -- two flags have the same bit only where they are the same flag at the same mode

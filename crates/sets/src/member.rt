@@ -44,6 +44,7 @@ fn set_bit(bytes: &mut [u8], i: usize, k: u8)
     requires { k < 8 }
     ensures memory { bytes.new ≡ with_bit bytes.old i k }
 {
+    // As above: with `get_mut` the goals were left open.
     if i < bytes.len() {
         bytes[i] |= 1 << k;
     }

@@ -75,6 +75,7 @@ impl<'a, 's> Reader<'a, 's> {
         match self.forms.item()? {
             Item::Name(name) if same_word(name.value, b"all") => Ok(Scope::All),
             Item::Name(name) => Err(self.misplaced(name.place)),
+            // A cast, since the guard is the test, which `try_from` would make again.
             Item::Number(n) if n.value < u16::from(MODE_LIMIT) => Ok(Scope::Mode(n.value as u8)),
             Item::Number(n) => Err(self.beyond(Reason::OutOfRange, n.place)),
         }

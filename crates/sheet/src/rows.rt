@@ -31,10 +31,8 @@ impl<'a, 's> Reader<'a, 's> {
         ensures moves { Moves self.old self.new }
     {
         let place = self.forms.open()?;
-        match depth.checked_sub(1) {
-            Some(inside) => Ok(inside),
-            None => Err(self.fault(Reason::TooDeep, Layer::Forms, place)),
-        }
+        let too_deep = self.fault(Reason::TooDeep, Layer::Forms, place);
+        depth.checked_sub(1).ok_or(too_deep)
     }
 
     // Numbers the row whose bracket closes here.
@@ -43,10 +41,8 @@ impl<'a, 's> Reader<'a, 's> {
         ensures moves { Moves self.old self.new }
     {
         let place = self.forms.close()?;
-        match self.sheet.push_row(row) {
-            Some(number) => Ok(number),
-            None => Err(self.beyond(Reason::TooMany, place)),
-        }
+        let number = self.sheet.push_row(row);
+        number.ok_or(self.beyond(Reason::TooMany, place))
     }
 
     // A formula, with the rows of its parts before its own; so many brackets may still be opened.

@@ -41,6 +41,7 @@ fn main(rt: HostRuntime) -> anyhow::Result<ExitCode> {
     }
 }
 
+// Not one function with `read` of `label`: here a missing sheet is no fault, and each names its own program.
 // Says on standard error which file cannot be read, and why, and ends with the status of a failure.
 fn cannot_read(rt: HostRuntime, file: &str, e: io::Error) -> anyhow::Result<ExitCode> {
     eprintln!(rt; "survey: {file} cannot be read: {e}")?;

@@ -21,12 +21,8 @@ impl<'a> Table<'a> {
         ensures shorter { left self.new.forms.words ≤ left self.old.forms.words }
     {
         let name = self.forms.name()?;
-        match Keyword::from_word(name.value) {
-            Some(value) => Ok(Placed {
-                value,
-                place: name.place,
-            }),
-            None => Err(self.forms.misplaced(name.place)),
-        }
+        let place = name.place;
+        let value = Keyword::from_word(name.value).ok_or(self.forms.misplaced(place))?;
+        Ok(Placed { value, place })
     }
 }

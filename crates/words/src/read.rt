@@ -95,6 +95,7 @@ impl<'a> Words<'a> {
             return Err(self.fault(Reason::BadByte, place));
         }
         let run = self.advance(n);
+        // A match: with `map_err` a goal was left open.
         match run_token(run) {
             Ok(value) => Ok(Placed { value, place }),
             Err(reason) => Err(self.fault(reason, place)),
