@@ -1,5 +1,6 @@
 -- The graph that dials, rules and flags mean. A mode is a setting of the dials.
-use Rattle.std.specs.Prelude.{ℕ, ◌+◌, ◌*◌, ◌/◌, ◌%◌, ◌<◌, ◌≤◌, Bool, cond, ◌&&◌, List, length, ℤ, pos, negsuc, neg_ℤ, ◌≤ℤ◌, ◌==◌, nat_le, nat_lt, slice_index_or}
+use Rattle.std.specs.Prelude.{◌≡◌, ℕ, ◌+◌, ◌*◌, ◌/◌, ◌%◌, ◌<◌, ◌≤◌, min, max, Bool, cond, ◌&&◌, List, length, ℤ, pos, negsuc, neg_ℤ, ◌≤ℤ◌, ◌==◌, nat_le, nat_lt, slice_index_or, refl}
+use Rattle.std.proofs.Common.{ap, ◌∙◌, arith, subst}
 use Rattle.std.proofs.lemmas.Bool.{and_parts, ltb-true}
 use Rattle.std.proofs.lemmas.Nat.{mul-le}
 use Rattle.std.specs.List.{AllByRecursion, list_any}
@@ -69,16 +70,20 @@ rule_joins s a u v r = r.command == a && (in_range r.low r.high (position s r.gu
 abbrev pub flag_shows : Sizes → ℕ → DialFlag → Bool
 flag_shows s u f = in_range f.low f.high (position s f.dial u)
 
--- The graph of the dials, with c commands, the rules and the flags: its modes are all settings of the dials. A flag stands where
--- its dial is in its range, and a command joins where some rule does.
-abbrev pub dial_meaning : Sizes → ℕ → List Rule → List DialFlag → Meaning
-dial_meaning s c rules flags = record {
-  modes = settings s;
+-- The graph of n modes, c commands and f flags: a flag stands where its dial is in its range, and a command joins where some
+-- rule does.
+abbrev pub counted_meaning : ℕ → ℕ → ℕ → Sizes → List Rule → List DialFlag → Meaning
+counted_meaning n c f s rules flags = record {
+  modes = n;
   commands = c;
-  flags = length flags;
-  stands = λ p u. nat_lt p (length flags) && (nat_lt u (settings s) && test_at (flag_shows s u) flags p);
-  joins = λ a u v. nat_lt a c && (nat_lt u (settings s) && (nat_lt v (settings s) && list_any (rule_joins s a u v) rules));
+  flags = f;
+  stands = λ p u. nat_lt p f && (nat_lt u n && test_at (flag_shows s u) flags p);
+  joins = λ a u v. nat_lt a c && (nat_lt u n && (nat_lt v n && list_any (rule_joins s a u v) rules));
 }
+
+-- the graph of the dials, with c commands, the rules and the flags: its modes are all settings of the dials
+abbrev pub dial_meaning : Sizes → ℕ → List Rule → List DialFlag → Meaning
+dial_meaning s c rules flags = counted_meaning (settings s) c (length flags) s rules flags
 
 -- every dial has 1 to 8 positions
 pub record SizesFit (s : Sizes) : Type 0 where
@@ -122,23 +127,68 @@ pub record CountsFit (s : Sizes) (c : ℕ) (flags : List DialFlag) : Type 0 wher
   pub commands_high : c ≤ command_limit
   pub flags_high : length flags ≤ flag_limit
 
--- the graph that dials, commands, rules and flags mean keeps the limits
-pub dial_limits : (s : Sizes) (c : ℕ) (rules : List Rule) (flags : List DialFlag) → CountsFit s c flags → Limits (dial_meaning s c rules flags)
-dial_limits s c rules flags counts =
+-- a number held between two limits
+abbrev pub held : ℕ → ℕ → ℕ → ℕ
+held low high n = max (min n high) low
+
+-- the sizes, each held to the limits
+abbrev pub held_sizes : Sizes → Sizes
+held_sizes s = record {
+  first = held 1 position_limit s.first;
+  second = held 1 position_limit s.second;
+  third = held 1 position_limit s.third;
+}
+
+-- The graph that any dials, commands, rules and flags mean, be they within the limits or not: sizes and counts outside of the
+-- limits, which the constructor refuses, are held to them.
+abbrev pub held_meaning : Sizes → ℕ → List Rule → List DialFlag → Meaning
+held_meaning s c rules flags =
+    let t = held_sizes s in
+    counted_meaning (held 1 mode_limit (settings t)) (held 1 command_limit c) (min (length flags) flag_limit) t rules flags
+
+-- so it keeps the limits, whatever the sizes and the counts are
+pub held_limits : (s : Sizes) (c : ℕ) (rules : List Rule) (flags : List DialFlag) → Limits (held_meaning s c rules flags)
+held_limits s c rules flags = record {
+  modes_low = omega arith;
+  modes_high = omega arith;
+  commands_low = omega arith;
+  commands_high = omega arith;
+  flags_high = omega arith;
+  stands_in = λ p u e.
+      let h = and_parts _ _ e in
+      let k = and_parts _ _ h.1 in
+      (ltb-true _ _ h.0, ltb-true _ _ k.0);
+  joins_in = λ a u v e.
+      let h = and_parts _ _ e in
+      let k = and_parts _ _ h.1 in
+      let l = and_parts _ _ k.1 in
+      (ltb-true _ _ h.0, ltb-true _ _ k.0, ltb-true _ _ l.0);
+}
+
+-- a number within two limits is held to itself
+held_within : (low high n : ℕ) → low ≤ n → n ≤ high → held low high n ≡ n
+held_within low high n l h = omega arith
+
+-- sizes within the limits are held to themselves
+held_sizes_same : (s : Sizes) → SizesFit s → held_sizes s ≡ s
+held_sizes_same s fit =
+    let e0 = held_within 1 position_limit s.first fit.first_low fit.first_high in
+    let e1 = held_within 1 position_limit s.second fit.second_low fit.second_high in
+    let e2 = held_within 1 position_limit s.third fit.third_low fit.third_high in
+    rw (e0, e1, e2) refl
+
+-- and so are sizes and counts, so that the graph is the one that they mean
+held_same : (s : Sizes) (c : ℕ) (rules : List Rule) (flags : List DialFlag) → CountsFit s c flags → held_meaning s c rules flags ≡ dial_meaning s c rules flags
+held_same s c rules flags counts =
     let fit = counts.positions in
-    record {
-      modes_low = mul-le 1 1 (s.first * s.second) s.third (mul-le 1 1 s.first s.second fit.first_low fit.second_low) fit.third_low;
-      modes_high = counts.settings_high;
-      commands_low = counts.commands_low;
-      commands_high = counts.commands_high;
-      flags_high = counts.flags_high;
-      stands_in = λ p u e.
-          let h = and_parts _ _ e in
-          let k = and_parts _ _ h.1 in
-          (ltb-true _ _ h.0, ltb-true _ _ k.0);
-      joins_in = λ a u v e.
-          let h = and_parts _ _ e in
-          let k = and_parts _ _ h.1 in
-          let l = and_parts _ _ k.1 in
-          (ltb-true _ _ h.0, ltb-true _ _ k.0, ltb-true _ _ l.0);
-    }
+    let some = mul-le 1 1 (s.first * s.second) s.third (mul-le 1 1 s.first s.second fit.first_low fit.second_low) fit.third_low in
+    let et = held_sizes_same s fit in
+    let en = held_within 1 mode_limit (settings s) some counts.settings_high in
+    let ec = held_within 1 command_limit c counts.commands_low counts.commands_high in
+    let ef : min (length flags) flag_limit ≡ length flags = omega (arith, counts.flags_high) in
+    ap (λ (t : Sizes). counted_meaning (held 1 mode_limit (settings t)) (held 1 command_limit c) (min (length flags) flag_limit) t rules flags) et
+    ∙ rw (en, ec, ef) refl
+
+-- the graph that dials, commands, rules and flags mean keeps the limits: within the limits it is the one that is held to them
+pub dial_limits : (s : Sizes) (c : ℕ) (rules : List Rule) (flags : List DialFlag) → CountsFit s c flags → Limits (dial_meaning s c rules flags)
+dial_limits s c rules flags counts = subst Limits (held_same s c rules flags counts) (held_limits s c rules flags)

@@ -14,8 +14,8 @@ abbrev pub meaning_of : DialGraph → Meaning
 meaning_of g = dial_meaning g.sizes g.commands g.rules.now g.flags.now
 
 -- so every dial graph keeps the limits
-pub held_limits : (g : DialGraph) → Limits (meaning_of g)
-held_limits g = dial_limits g.sizes g.commands g.rules.now g.flags.now g.counts
+pub limits_of : (g : DialGraph) → Limits (meaning_of g)
+limits_of g = dial_limits g.sizes g.commands g.rules.now g.flags.now g.counts
 
 -- the setting with the dials at x0, x1 and x2 has a number that is a mode, and at that mode the dials are at x0, x1 and x2
 pub record HasNumber (s : Sizes) (x0 x1 x2 : ℕ) : Type 0 where

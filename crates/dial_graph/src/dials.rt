@@ -82,11 +82,11 @@ impl<'a> DialGraph<'a> {
 }
 
 impl<'a> Graph for DialGraph<'a> {
-    ghost use Rattle.dial_graph.specs.Made.{held_limits, meaning_of};
+    ghost use Rattle.dial_graph.specs.Made.{limits_of, meaning_of};
 
     ghost meaning = { λ g. meaning_of g };
 
-    ghost limits = { λ g. held_limits g };
+    ghost limits = { λ g. limits_of g };
 
     fn modes(&self) -> u8 {
         self.sizes.settings() as u8

@@ -32,6 +32,11 @@ latched one_shot m = record {
 abbrev pub has_room : Meaning → Bool
 has_room m = nat_le (2 * m.modes) mode_limit && nat_lt m.flags flag_limit
 
+-- What a latch over any graph means, be there room for it or not: over a graph without room, which the constructor refuses, it
+-- changes nothing.
+abbrev pub latch_meaning : ℕ → Meaning → Meaning
+latch_meaning one_shot m = cond (has_room m) (latched one_shot m) m
+
 -- a latch can be made where there is room for it and the graph has the command
 pub record CanLatch (one_shot : ℕ) (m : Meaning) : Type 0 where
   pub modes : 2 * m.modes ≤ mode_limit

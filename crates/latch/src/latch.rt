@@ -3,7 +3,7 @@
 ghost use Rattle.graph.specs.Refusals.{refusal_number};
 ghost use Rattle.graph.specs.Meaning.{flag_limit, mode_limit};
 ghost use Rattle.latch.specs.Latched.{CanLatch, Ground, below, has_room, latch_moves, latched};
-ghost use Rattle.latch.specs.Limits.{latch_limits};
+ghost use Rattle.latch.specs.Limits.{latched_limits};
 ghost use Rattle.std.specs.Prelude.{◌≡◌, ◌+◌, ◌*◌, ◌≤◌, MatchResult};
 
 use graph::{Command, FLAG_LIMIT, Flag, Graph, MODE_LIMIT, Mode, Refusal};
@@ -58,7 +58,7 @@ fn moves(one_shot: bool, before: bool, after: bool) -> bool
 impl<G: Graph> Graph for Latch<G> {
     ghost meaning = { λ l. latched l.command (G.Graph.meaning l.graph) };
 
-    ghost limits = { λ l. latch_limits l.command (G.Graph.meaning l.graph) (G.Graph.limits l.graph) l.few_modes l.few_flags };
+    ghost limits = { λ l. latched_limits l.command (G.Graph.meaning l.graph) (G.Graph.limits l.graph) l.few_modes l.few_flags };
 
     fn modes(&self) -> u8 {
         2 * self.graph.modes()

@@ -1,5 +1,6 @@
 -- The graph that a table of bytes and three counts mean.
-use Rattle.std.specs.Prelude.{ℕ, ◌≤◌, ◌&&◌, List, nat_lt}
+use Rattle.std.specs.Prelude.{◌≡◌, ℕ, ◌≤◌, min, max, ◌&&◌, List, nat_lt, refl}
+use Rattle.std.proofs.Common.{arith}
 use Rattle.std.proofs.lemmas.Bool.{and_parts, ltb-true}
 use Rattle.graph.specs.Meaning.{Meaning, Limits, mode_limit, command_limit, flag_limit}
 use Rattle.list_graph.specs.Layout.{flag_bit, arc_bit}
@@ -41,3 +42,35 @@ list_limits bytes n c f counts = record {
       let l = and_parts _ _ k.1 in
       (ltb-true _ _ h.0, ltb-true _ _ k.0, ltb-true _ _ l.0);
 }
+
+-- a count held between two limits
+abbrev pub held : ℕ → ℕ → ℕ → ℕ
+held low high n = max (min n high) low
+
+-- The graph that bytes and any counts mean, be they within the limits or not: counts outside of the limits, which the constructor
+-- refuses, are held to them.
+abbrev pub held_meaning : List ℕ → ℕ → ℕ → ℕ → Meaning
+held_meaning bytes n c f = list_meaning bytes (held 1 mode_limit n) (held 1 command_limit c) (held 0 flag_limit f)
+
+-- so it keeps the limits, whatever the counts are
+pub held_limits : (bytes : List ℕ) (n c f : ℕ) → Limits (held_meaning bytes n c f)
+held_limits bytes n c f =
+    list_limits bytes (held 1 mode_limit n) (held 1 command_limit c) (held 0 flag_limit f) (record {
+      modes_low = omega arith;
+      modes_high = omega arith;
+      commands_low = omega arith;
+      commands_high = omega arith;
+      flags_high = omega arith;
+    })
+
+-- a count within two limits is held to itself
+held_within : (low high n : ℕ) → low ≤ n → n ≤ high → held low high n ≡ n
+held_within low high n l h = omega arith
+
+-- counts within the limits are held to themselves, so that the graph is the one that bytes and counts mean
+pub held_same : (bytes : List ℕ) (n c f : ℕ) → CountsFit n c f → held_meaning bytes n c f ≡ list_meaning bytes n c f
+held_same bytes n c f counts =
+    let en = held_within 1 mode_limit n counts.modes_low counts.modes_high in
+    let ec = held_within 1 command_limit c counts.commands_low counts.commands_high in
+    let ef = held_within 0 flag_limit f (omega arith) counts.flags_high in
+    rw (en, ec, ef) refl

@@ -1,19 +1,20 @@
 -- What the constructor of a list graph makes, and on which ground it refuses.
 use Rattle.std.specs.Prelude.{◌≡◌, ℕ, ◌<◌, ◌≤◌, ◌⊎◌, List, length, Ok, Err, Result}
+use Rattle.std.proofs.Common.{subst}
 use Rattle.graph.specs.Meaning.{Meaning, Limits}
 use Rattle.graph.specs.Refusals.{refusal_number}
 use Rattle.graph.specs.declared.refusal.Refusal.{Refusal}
 use Rattle.list_graph.specs.Layout.{table_bytes}
-use Rattle.list_graph.specs.Lists.{CountsFit, list_meaning, list_limits}
+use Rattle.list_graph.specs.Lists.{CountsFit, list_meaning, held_limits, held_same}
 use Rattle.list_graph.specs.declared.list.ListGraph.{ListGraph}
 
 -- what a list graph means
 abbrev pub meaning_of : ListGraph → Meaning
 meaning_of g = list_meaning g.bytes.now g.modes g.commands g.flags
 
--- so every list graph keeps the limits
-pub held_limits : (g : ListGraph) → Limits (meaning_of g)
-held_limits g = list_limits g.bytes.now g.modes g.commands g.flags g.counts
+-- every list graph keeps the limits: its counts are within them, so that it is what its bytes and counts mean held to the limits
+pub limits_of : (g : ListGraph) → Limits (meaning_of g)
+limits_of g = subst Limits (held_same g.bytes.now g.modes g.commands g.flags g.counts) (held_limits g.bytes.now g.modes g.commands g.flags)
 
 -- the bytes are a whole table, the counts are within the limits, and the graph means what the bytes and the counts mean
 pub record Accepted (bytes : List ℕ) (n c f : ℕ) (g : ListGraph) : Type 0 where

@@ -50,11 +50,11 @@ impl<'a> ListGraph<'a> {
 }
 
 impl<'a> Graph for ListGraph<'a> {
-    ghost use Rattle.list_graph.specs.Made.{held_limits, meaning_of};
+    ghost use Rattle.list_graph.specs.Made.{limits_of, meaning_of};
 
     ghost meaning = { λ g. meaning_of g };
 
-    ghost limits = { λ g. held_limits g };
+    ghost limits = { λ g. limits_of g };
 
     fn modes(&self) -> u8 {
         self.modes
