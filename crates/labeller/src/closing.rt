@@ -6,7 +6,6 @@ ghost use Rattle.label_table.specs.Entries.{In};
 
 use crate::row_set::{RowSet, Table};
 use graph::Mode;
-use label_table::is_joined;
 use logic::RowNumber;
 
 // The pairs that a row has among the first modes.
@@ -60,8 +59,13 @@ impl Pairs {
 
     // Whether the row leads from u to k, which is another mode.
     fn leads_to_other(self, table: &Table, u: Mode, k: Mode) -> bool
+        requires { (u < 64) × (k < 64) }
         ensures exactly { Decides result ((u ≢ k) × In table.now self.row u k) }
     {
-        u != k && is_joined(table, self.row, u, k)
+        let from = RowSet {
+            row: self.row,
+            mode: u,
+        };
+        u != k && from.has_mode(table, k)
     }
 }

@@ -9,7 +9,6 @@ ghost use Rattle.logic.specs.Rows.{is_formula};
 use crate::placed::PlacedRow;
 use crate::row_set::{RowSet, Table};
 use graph::{Graph, Mode};
-use label_table::is_true;
 use logic::{Row, RowNumber};
 
 // Fills the block of a formula row, which is clear.
@@ -49,7 +48,8 @@ fn says_true<G: Graph>(graph: &G, table: &Table, placed: PlacedRow, u: Mode) -> 
 
 // Whether formula row x is true at u. A formula row has its modes where a program row has those of mode 0.
 pub(crate) fn holds(table: &Table, x: RowNumber, u: Mode) -> bool
+    requires { (x < 48) × (u < 64) }
     ensures answer { result ≡ pair_bit table.now x 0 u }
 {
-    is_true(table, x, u)
+    RowSet { row: x, mode: 0 }.has_mode(table, u)
 }

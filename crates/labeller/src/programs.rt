@@ -30,8 +30,12 @@ fn add_through<G: Graph>(graph: &G, table: &mut Table, set: RowSet, r: RowNumber
     requires parts { (r < set.row) × (s < set.row) }
     ensures gained { Gained set.row set.mode (Through (G.meaning graph.now).modes table.old r s set.mode) table.old table.new }
 {
+    let first = RowSet {
+        row: r,
+        mode: set.mode,
+    };
     for w in 0..graph.modes() {
-        if is_joined(table, r, set.mode, w) {
+        if first.has_mode(table, w) {
             set.add_set(table, RowSet { row: s, mode: w });
         }
     }
@@ -43,6 +47,7 @@ fn add_turned<G: Graph>(graph: &G, table: &mut Table, set: RowSet, r: RowNumber)
     ensures gained { Gained set.row set.mode (Turned (G.meaning graph.now).modes table.old r set.mode) table.old table.new }
 {
     for v in 0..graph.modes() {
+        // Not by `has_mode`, with which it took a fifth longer.
         if is_joined(table, r, v, set.mode) {
             set.add_mode(table, v);
         }
@@ -91,6 +96,7 @@ fn add_step_or_none(table: &mut Table, set: RowSet, r: RowNumber)
 
 // Adds the mode of the set itself, where formula row x is true there.
 fn add_if_true(table: &mut Table, set: RowSet, x: RowNumber)
+    requires parts { x < set.row }
     ensures gained { Gained set.row set.mode (λ v. In table.old x 0 set.mode × (v ≡ set.mode)) table.old table.new }
 {
     if holds(table, x, set.mode) {

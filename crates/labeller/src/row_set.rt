@@ -3,6 +3,8 @@
 ghost use Rattle.std.specs.Prelude.{◌≡◌, ℕ, ◌+◌, ◌*◌, ◌<◌, length, Decides, slice_index};
 ghost use Rattle.label_table.specs.Changes.{Gained};
 ghost use Rattle.label_table.specs.Entries.{In};
+ghost use Rattle.label_table.specs.Layout.{pair_bit};
+ghost use Rattle.sets.specs.Sets.{BytesJoined, Joined, Meet, Within};
 
 use graph::Mode;
 use label_table::{TABLE_BYTES, program_set};
@@ -41,7 +43,7 @@ impl RowSet {
 
     // Whether some mode is in both sets: a byte of the one has a bit in common with its other.
     pub(crate) fn meets(self, other: RowSet, table: &Table) -> bool
-        ensures exactly { Decides result ((v : ℕ) × (v < 64) × In table.now self.row self.mode v × In table.now other.row other.mode v) }
+        ensures exactly { Decides result (Meet table.now (512 * self.row + 8 * self.mode) (512 * other.row + 8 * other.mode)) }
     {
         self.bytes(table)
             .iter()
@@ -51,12 +53,22 @@ impl RowSet {
 
     // Whether every mode of this set is in the other: no byte of it has a bit that its other lacks.
     pub(crate) fn is_subset(self, other: RowSet, table: &Table) -> bool
-        ensures exactly { Decides result ((v : ℕ) → v < 64 → In table.now self.row self.mode v → In table.now other.row other.mode v) }
+        ensures exactly { Decides result (Within table.now (512 * self.row + 8 * self.mode) (512 * other.row + 8 * other.mode)) }
     {
         self.bytes(table)
             .iter()
             .zip(other.bytes(table))
             .all(|(x, y)| *x | *y == *y)
+    }
+
+    // Whether mode v is in the set. Not by `contains`, which asks for each mode whether the bytes end before it: closing pairs then
+    // took up to twice the time.
+    pub(crate) fn has_mode(self, table: &Table, v: Mode) -> bool
+        requires { v < 64 }
+        ensures answer { result ≡ pair_bit table.now self.row self.mode v }
+    {
+        let byte = table[self.start() as usize + (v / 8) as usize];
+        (byte >> (v % 8)) % 2 == 1
     }
 
     // Puts mode v into the set.
@@ -70,10 +82,18 @@ impl RowSet {
 
     // Joins another set to the set. All of the other is read before this one is written to.
     pub(crate) fn add_set(self, table: &mut Table, other: RowSet)
+        ensures joined { Joined (512 * self.row + 8 * self.mode) (512 * other.row + 8 * other.mode) table.old table.new }
         ensures gained { Gained self.row self.mode (In table.old other.row other.mode) table.old table.new }
     {
-        let start = self.start() as usize;
         let added = *other.bytes(table);
+        self.add_bytes(table, &added);
+    }
+
+    // Joins the eight bytes of a set to those of the set.
+    fn add_bytes(self, table: &mut Table, added: &[u8; SET_BYTES])
+        ensures memory { BytesJoined 8 (512 * self.row + 8 * self.mode) added.now table.old table.new }
+    {
+        let start = self.start() as usize;
         // By place: it was tried with `iter_mut`, of which a proof knows afterwards how many bytes there are, and not which.
         for (i, byte) in added.iter().enumerate() {
             table[start + i] |= *byte;
