@@ -87,8 +87,9 @@ fn survey_claims(rt: HostRuntime) -> anyhow::Result<ExitCode> {
     Ok(ExitCode::SUCCESS)
 }
 
-// Each claim, and then the rows that were numbered for it.
+// Each claim, and then the rows that were numbered for it. The rows are gone through once, over all claims.
 fn print_sheet(rt: &impl Print, sheet: &Sheet) -> io::Result<()> {
+    let mut rows = (0..).zip(sheet.rows());
     // Where the rows of the next claim begin: a claim says only where its own end.
     let mut first = 0;
     for (number, claim) in (0..).zip(sheet.claims()) {
@@ -97,7 +98,7 @@ fn print_sheet(rt: &impl Print, sheet: &Sheet) -> io::Result<()> {
             claim: *claim,
         })?;
         let end = usize::from(claim.row) + 1;
-        for (number, row) in (0..).zip(sheet.rows()).take(end).skip(first) {
+        for (number, row) in rows.by_ref().take(end.saturating_sub(first)) {
             rt.println(RowLine { number, row: *row })?;
         }
         first = end;
