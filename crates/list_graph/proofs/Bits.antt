@@ -1,8 +1,8 @@
 -- What setting a flag or an arc of a table changes, and what it leaves.
-use Rattle.std.proofs.Common.{◌≡◌, ℕ, ◌%◌, ◌<◌, ◌≤◌, Bool, ◌&&◌, ◌||◌, eqb, List, length, ap, ◌∙◌, arith}
+use Rattle.std.proofs.Common.{◌≡◌, ℕ, ◌%◌, ◌<◌, ◌≤◌, Bool, ◌&&◌, ◌||◌, eqb, List, length, drop, ap, ◌∙◌, arith}
 use Rattle.std.proofs.lemmas.Bool.Decides.{nat_tests}
 use Rattle.graph.specs.Meaning.{mode_limit, command_limit, flag_limit}
-use Rattle.sets.proofs.Bits.{bit_with_bit, bit_other, length_with_bit}
+use Rattle.sets.proofs.Bits.{bit_with_bit, bit_other, length_with_bit, drop_with_bit}
 use Rattle.list_graph.specs.Layout.{table_bytes, flag_byte, arc_byte, flag_bit, arc_bit, marked, joined}
 
 -- two flags have the same bit only where they are the same flag at the same mode
@@ -39,3 +39,11 @@ length_marked bs p u = length_with_bit bs (flag_byte p u) (u % 8)
 
 pub length_joined : (bs : List ℕ) (a u v : ℕ) → length (joined bs a u v) ≡ length bs
 length_joined bs a u v = length_with_bit bs (arc_byte a u v) (v % 8)
+
+-- what lies behind the table stays where a flag is set
+pub drop_marked : (bs : List ℕ) (p u : ℕ) → p < flag_limit → u < mode_limit → drop table_bytes (marked bs p u) ≡ drop table_bytes bs
+drop_marked bs p u hp hu = drop_with_bit table_bytes bs (flag_byte p u) (u % 8) (omega arith)
+
+-- what lies behind the table stays where an arc is set
+pub drop_joined : (bs : List ℕ) (a u v : ℕ) → a < command_limit → u < mode_limit → v < mode_limit → drop table_bytes (joined bs a u v) ≡ drop table_bytes bs
+drop_joined bs a u v ha hu hv = drop_with_bit table_bytes bs (arc_byte a u v) (v % 8) (omega arith)

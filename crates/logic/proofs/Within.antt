@@ -23,6 +23,10 @@ module _ (m : Meaning) (l : Limits m) where
   pub leads_to_mode : (r : Program) (u v : ℕ) → u < m.modes → Leads m r u v → v < m.modes
   leads_to_mode r u v h j = (both_ends r u v j).0 h
 
+  -- to a mode a program leads only from modes
+  pub leads_from_mode : (r : Program) (u v : ℕ) → v < m.modes → Leads m r u v → u < m.modes
+  leads_from_mode r u v h j = (both_ends r u v j).1 h
+
   module _ (r : Program) (u : ℕ) (h : u < m.modes) where
     -- a box speaks of modes alone
     pub box_of_modes : (x : Formula) → ((v : ℕ) → v < m.modes → Leads m r u v → TrueAt m x v) → TrueAt m (box r x) u
