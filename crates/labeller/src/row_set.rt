@@ -62,7 +62,8 @@ impl RowSet {
     }
 
     // Whether mode v is in the set. Not by `contains`, which asks for each mode whether the bytes end before it: closing pairs then
-    // took up to twice the time.
+    // took twice the time.
+    #[tactic(auto, unfolding(sets::specs::Sets::bit))]
     pub(crate) fn has_mode(self, table: &Table, v: Mode) -> bool
         requires { v < 64 }
         ensures answer { result ≡ pair_bit table.now self.row self.mode v }
