@@ -1,10 +1,11 @@
 -- The graph that dials, rules and flags mean. A mode is a setting of the dials.
-use Rattle.std.specs.Prelude.{◌≡◌, ℕ, ◌+◌, ◌*◌, ◌/◌, ◌%◌, ◌<◌, ◌≤◌, min, max, Bool, cond, ◌&&◌, List, length, ℤ, pos, negsuc, neg_ℤ, ◌≤ℤ◌, ◌==◌, nat_le, nat_lt, slice_index_or, refl}
+use Rattle.std.specs.Prelude.{◌≡◌, ℕ, ◌+◌, ◌*◌, ◌/◌, ◌%◌, ◌<◌, ◌≤◌, min, Bool, cond, ◌&&◌, List, length, ℤ, pos, negsuc, neg_ℤ, ◌≤ℤ◌, ◌==◌, nat_le, nat_lt, slice_index_or, refl}
 use Rattle.std.proofs.Common.{ap, ◌∙◌, arith, subst}
 use Rattle.std.proofs.lemmas.Bool.{and_parts, ltb-true}
 use Rattle.std.proofs.lemmas.Nat.{mul-le}
 use Rattle.std.specs.List.{AllByRecursion, list_any}
 use Rattle.graph.specs.Meaning.{Meaning, Limits, mode_limit, command_limit, flag_limit}
+use Rattle.graph.specs.Held.{held, held_within}
 use Rattle.dial_graph.specs.Lists.{test_at}
 use Rattle.dial_graph.specs.declared.rules.Rule.{Rule}
 use Rattle.dial_graph.specs.declared.rules.DialFlag.{DialFlag}
@@ -127,10 +128,6 @@ pub record CountsFit (s : Sizes) (c : ℕ) (flags : List DialFlag) : Type 0 wher
   pub commands_high : c ≤ command_limit
   pub flags_high : length flags ≤ flag_limit
 
--- a number held between two limits
-abbrev pub held : ℕ → ℕ → ℕ → ℕ
-held low high n = max (min n high) low
-
 -- the sizes, each held to the limits
 abbrev pub held_sizes : Sizes → Sizes
 held_sizes s = record {
@@ -164,10 +161,6 @@ held_limits s c rules flags = record {
       let l = and_parts _ _ k.1 in
       (ltb-true _ _ h.0, ltb-true _ _ k.0, ltb-true _ _ l.0);
 }
-
--- a number within two limits is held to itself
-held_within : (low high n : ℕ) → low ≤ n → n ≤ high → held low high n ≡ n
-held_within low high n l h = omega arith
 
 -- sizes within the limits are held to themselves
 held_sizes_same : (s : Sizes) → SizesFit s → held_sizes s ≡ s

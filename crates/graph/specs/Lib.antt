@@ -1,5 +1,6 @@
--- The definitions that the contracts of this crate cite.
+-- The definitions that the contracts of this crate cite, and what crates above share.
 pub mod Meaning
+pub mod Held
 pub mod Stuck
 pub mod Refusals
 pub mod Targets

@@ -1,8 +1,9 @@
 -- The graph that a table of bytes and three counts mean.
-use Rattle.std.specs.Prelude.{◌≡◌, ℕ, ◌≤◌, min, max, ◌&&◌, List, nat_lt, refl}
+use Rattle.std.specs.Prelude.{◌≡◌, ℕ, ◌≤◌, ◌&&◌, List, nat_lt, refl}
 use Rattle.std.proofs.Common.{arith}
 use Rattle.std.proofs.lemmas.Bool.{and_parts, ltb-true}
 use Rattle.graph.specs.Meaning.{Meaning, Limits, mode_limit, command_limit, flag_limit}
+use Rattle.graph.specs.Held.{held, held_within}
 use Rattle.list_graph.specs.Layout.{flag_bit, arc_bit}
 
 -- the counts of modes, commands and flags that a graph may have
@@ -43,10 +44,6 @@ list_limits bytes n c f counts = record {
       (ltb-true _ _ h.0, ltb-true _ _ k.0, ltb-true _ _ l.0);
 }
 
--- a count held between two limits
-abbrev pub held : ℕ → ℕ → ℕ → ℕ
-held low high n = max (min n high) low
-
 -- The graph that bytes and any counts mean, be they within the limits or not: counts outside of the limits, which the constructor
 -- refuses, are held to them.
 abbrev pub held_meaning : List ℕ → ℕ → ℕ → ℕ → Meaning
@@ -62,10 +59,6 @@ held_limits bytes n c f =
       commands_high = omega arith;
       flags_high = omega arith;
     })
-
--- a count within two limits is held to itself
-held_within : (low high n : ℕ) → low ≤ n → n ≤ high → held low high n ≡ n
-held_within low high n l h = omega arith
 
 -- counts within the limits are held to themselves, so that the graph is the one that bytes and counts mean
 pub held_same : (bytes : List ℕ) (n c f : ℕ) → CountsFit n c f → held_meaning bytes n c f ≡ list_meaning bytes n c f
